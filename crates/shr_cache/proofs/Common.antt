@@ -1,5 +1,5 @@
 -- The names that the proofs of this crate cite most, passed on from one place. Declares nothing.
-pub use Rattle.std.proofs.Common.{Bool, List, ap, false, subst, sym, true, ℕ, ◌∙◌, ◌≡◌}
+pub use Rattle.std.proofs.Common.{Bool, List, ap, false, subst, sym, true, ℕ, ◌<◌, ◌∙◌, ◌≡◌}
 pub use Rattle.shr_base.specs.declared.objects.Object.{Object}
 pub use Rattle.shr_base.specs.declared.places.Serial.{Serial}
 pub use Rattle.shr_base.specs.declared.replies.Found.{Found}

@@ -1,35 +1,39 @@
 -- Each step from the seats before it to those after it.
-use Rattle.shr_cache.proofs.Common.{◌≡◌, ℕ, List, ap, subst, ◌∙◌, Serial, Found, View, view_of, Shared, WorkerState, state_of, OnCache, Uncharges, IsFit, AreHolding, Opens, Calls}
+use Rattle.shr_cache.proofs.Common.{◌≡◌, ◌<◌, ℕ, List, ap, sym, subst, ◌∙◌, shape_of, Serial, Found, View, view_of, Shared, WorkerState, state_of, OnCache, Uncharges, IsFit, AreHolding, Opens, Calls}
 use Rattle.shr_base.specs.Kept.{Kept}
 use Rattle.shr_base.specs.declared.journals.UseStep.{UseStep}
+use Rattle.shr_base.specs.declared.places.Target.{Target}
 use Rattle.shr_model.specs.Groups.{path_of}
-use Rattle.shr_core.specs.declared.seat.Seat.{Seat}
+use Rattle.shr_seats.specs.Shapes.{groups_in}
 use Rattle.shr_core.specs.Parts.{Claims}
-use Rattle.shr_core.specs.Seats as core
+use Rattle.shr_core.specs.declared.table.Core.{Core}
+use Rattle.shr_core.specs.Seats.{Seated}
 use Rattle.shr_core.proofs.Owing.{still_none}
 use Rattle.shr_core.specs.Steps.{with_put}
-use Rattle.shr_charge.specs.declared.table.ChargeSeat.{ChargeSeat}
+use Rattle.shr_charge.specs.declared.table.Charge.{Charge}
+use Rattle.shr_charge.specs.Seat.{ChargeSeated}
 use Rattle.shr_charge.specs.Charging as charging
 use Rattle.shr_charge.specs.Charging.{AreDowns}
 use Rattle.shr_deferred.specs.Seat.{moves_of}
+use Rattle.shr_opening.specs.Opening.{IsTargetOf}
 use Rattle.shr_walk.specs.declared.seats.Seats.{Seats}
 use Rattle.shr_walk.specs.Sharing.{IsShared}
 use Rattle.shr_walk.proofs.Shares.{same_parents}
 use Rattle.shr_cache.proofs.Stays.{Stays}
 
 -- the seats with another seat of one table
-abbrev pub with_core : Seats → Seat → Seats
+abbrev pub with_core : Seats → Seated → Seats
 with_core s seat = record { cache = record { core = seat; charge = s.cache.charge; uses = s.cache.uses }; deferred = s.deferred; walks = s.walks; carries = s.carries }
 
 -- the same of the charges, with what was noted
-abbrev pub with_charge : Seats → ChargeSeat → Kept UseStep → Seats
+abbrev pub with_charge : Seats → ChargeSeated → Kept UseStep → Seats
 with_charge s seat uses = record { cache = record { core = s.cache.core; charge = seat; uses = uses }; deferred = s.deferred; walks = s.walks; carries = s.carries }
 
 -- an uncharge
-pub uncharged : (x : Shared) (shared : IsShared x) (by : Serial) (group : ℕ) (s : Seats) (seat : ChargeSeat) (uses : Kept UseStep) → charging.UnchargesOne x.charge.shape by group s.cache.charge seat s.cache.uses uses → Uncharges x by group (state_of s) (state_of (with_charge s seat uses))
-uncharged x shared by group s seat uses h = record {
+pub uncharged : (x : Shared) (shared : IsShared x) (by : Serial) (group : ℕ) (s : Seats) (seat : ChargeSeated) (uses : Kept UseStep) → s.cache.charge.charge ≡ x.charge → charging.UnchargesOne s.cache.charge.charge.shape by group s.cache.charge seat s.cache.uses uses → Uncharges x by group (state_of s) (state_of (with_charge s seat uses))
+uncharged x shared by group s seat uses of h = record {
   ops = h.ops;
-  downs = subst (λ (ps : List ℕ). AreDowns by (path_of ps group) h.ops) (same_parents x shared) h.made;
+  downs = subst (λ (ps : List ℕ). AreDowns by (path_of ps group) h.ops) (ap (λ (c : Charge). c.shape.parents.items) of ∙ same_parents x shared) h.made;
   rise = h.noted.rise;
   rest = λ i. record {
     core = view_of s.cache.core;
@@ -43,15 +47,15 @@ uncharged x shared by group s seat uses h = record {
 }
 
 -- a call on a list, and the reference given back
-pub called : (call : View → View → Type 0) (s : Seats) (seat last : Seat) → call (view_of s.cache.core) (view_of seat) → view_of last ≡ with_put (view_of seat) → Calls call (state_of s) (state_of (with_core s last))
+pub called : (call : View → View → Type 0) (s : Seats) (seat last : Seated) → call (view_of s.cache.core) (view_of seat) → last ≡ record seat { view = with_put (view_of seat) } → Calls call (state_of s) (state_of (with_core s last))
 called call s seat last made back = record {
   called = view_of seat;
   made = made;
-  rest = ap (λ (v : View). record (state_of s) { core = v }) back;
+  rest = ap (λ (q : Seated). record (state_of s) { core = view_of q }) back;
 }
 
 -- the same of the cache that was opened
-pub asked : (x : Shared) (group decl : ℕ) (f : Found) (call : View → View → Type 0) (s : WorkerState) (opened : Seats) (seat last : Seat) → Opens x group decl f s (state_of opened) → call (view_of opened.cache.core) (view_of seat) → view_of last ≡ with_put (view_of seat) → OnCache x group decl f call s (state_of (with_core opened last))
+pub asked : (x : Shared) (group decl : ℕ) (f : Found) (call : View → View → Type 0) (s : WorkerState) (opened : Seats) (seat last : Seated) → Opens x group decl f s (state_of opened) → call (view_of opened.cache.core) (view_of seat) → last ≡ record seat { view = with_put (view_of seat) } → OnCache x group decl f call s (state_of (with_core opened last))
 asked x group decl f call s opened seat last opens made back = record {
   loaded = opens.loaded;
   held = state_of opened;
@@ -60,18 +64,22 @@ asked x group decl f call s opened seat last opens made back = record {
   calls = called call opened seat last made back;
 }
 
+-- the place of a call is one of the seat's core
+pub place_there : (x : Shared) (id : ℕ) (s : Seats) (t : Target) → AreHolding x id s → IsTargetOf (shape_of x.core) t → (id < (shape_of s.cache.core.core).ids) × (t.node < (shape_of s.cache.core.core).nodes) × (t.group < groups_in (shape_of s.cache.core.core))
+place_there x id s t h there = subst (λ (c : Core). (id < (shape_of c).ids) × (t.node < (shape_of c).nodes) × (t.group < groups_in (shape_of c))) (sym h.core) (h.near, there.node, there.group)
+
 -- the worker is fit once the reference was given back
-pub fit_called : (x : Shared) (id : ℕ) (s : Seats) (seat last : Seat) → IsShared x → AreHolding x id s → Stays (view_of s.cache.core) (view_of seat) → core.IsOf x.core last → view_of last ≡ with_put (view_of seat) → IsFit x (with_core s last)
-fit_called x id s seat last shared h stays of back = record {
+pub fit_called : (x : Shared) (id : ℕ) (s : Seats) (seat last : Seated) → IsShared x → AreHolding x id s → Stays (view_of s.cache.core) (view_of seat) → seat.core ≡ s.cache.core.core → last ≡ record seat { view = with_put (view_of seat) } → IsFit x (with_core s last)
+fit_called x id s seat last shared h stays same back = record {
   shared = shared;
   rested = record {
-    core = of;
+    core = ap (λ (q : Seated). q.core) back ∙ (same ∙ h.core);
     idle = record {
-      rooms = ap (λ (v : View). v.holding) back ∙ (stays.gains.holding ∙ h.rooms);
-      held = ap (λ (v : View). v.claims.held) back;
-      owner = ap (λ (v : View). v.claims.owner) back ∙ (ap (λ (y : Claims). y.owner) (stays.gains.marks h.owner) ∙ h.owner);
+      rooms = ap (λ (q : Seated). q.view.holding) back ∙ (stays.gains.holding ∙ h.rooms);
+      held = ap (λ (q : Seated). q.view.claims.held) back;
+      owner = ap (λ (q : Seated). q.view.claims.owner) back ∙ (ap (λ (y : Claims). y.owner) (stays.gains.marks h.owner) ∙ h.owner);
     };
-    owed = ap (λ (v : View). v.marks.owed) back ∙ still_none (view_of s.cache.core) (view_of seat) h.owed stays.gains.owed;
+    owed = ap (λ (q : Seated). q.view.marks.owed) back ∙ still_none (view_of s.cache.core) (view_of seat) h.owed stays.gains.owed;
     charge = h.charge;
     deferred = h.deferred;
   };

@@ -19,8 +19,5 @@ pub(crate) fn uncharge<R: Wait>(worker: &mut Worker<'_, R>, group: u16)
     ensures same { IsSame worker.old worker.new }
 {
     let cache = &mut worker.seats.cache;
-    worker
-        .shared
-        .charge
-        .uncharge(&mut cache.charge, &mut cache.uses, worker.by, group);
+    cache.charge.uncharge(&mut cache.uses, worker.by, group);
 }

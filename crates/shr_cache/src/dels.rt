@@ -55,7 +55,6 @@ fn take_out<R: Wait>(
         Opened::Held { found } => found,
         Opened::Refused { reply } => return Err(reply),
     };
-    let core = &worker.shared.core;
     let seat = &mut worker.seats.cache.core;
     let call = TenantCall {
         id: found.id,
@@ -63,8 +62,8 @@ fn take_out<R: Wait>(
         by: worker.by,
         birth: group,
     };
-    let answer = drop_key(worker.rt, core, seat, call, key);
-    core.put(seat);
+    let answer = drop_key(worker.rt, seat, call, key);
+    seat.put();
     Ok((answer, found))
 }
 

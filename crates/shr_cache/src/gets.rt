@@ -49,7 +49,6 @@ pub fn get<R: Wait>(worker: &mut Worker<'_, R>, target: Target, key: &Text) -> A
         Opened::Held { found } => found,
         Opened::Refused { reply } => return unfound(reply),
     };
-    let core = &worker.shared.core;
     let seat = &mut worker.seats.cache.core;
     let call = TenantCall {
         id: found.id,
@@ -57,8 +56,8 @@ pub fn get<R: Wait>(worker: &mut Worker<'_, R>, target: Target, key: &Text) -> A
         by: worker.by,
         birth: group,
     };
-    let answer = look(worker.rt, core, seat, call, key);
-    core.put(seat);
+    let answer = look(worker.rt, seat, call, key);
+    seat.put();
     Answered {
         reply: reply_of(answer),
         found: Some(found),

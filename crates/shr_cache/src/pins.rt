@@ -52,7 +52,6 @@ pub fn set_pin<R: Wait>(
         Opened::Held { found } => found,
         Opened::Refused { reply } => return unfound(reply),
     };
-    let core = &worker.shared.core;
     let seat = &mut worker.seats.cache.core;
     let call = TenantCall {
         id: found.id,
@@ -60,8 +59,8 @@ pub fn set_pin<R: Wait>(
         by: worker.by,
         birth: group,
     };
-    let answer = pin_in_list(worker.rt, core, seat, call, key, pinned);
-    core.put(seat);
+    let answer = pin_in_list(worker.rt, seat, call, key, pinned);
+    seat.put();
     Answered {
         reply: reply_of(answer),
         found: Some(found),

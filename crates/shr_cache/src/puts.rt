@@ -62,11 +62,10 @@ fn offer<R: Wait>(worker: &mut Worker<'_, R>, target: Target, key: Text, value: 
         Opened::Held { found } => found,
         Opened::Refused { reply } => return unfound(reply),
     };
-    let core = &worker.shared.core;
     let seat = &mut worker.seats.cache.core;
     let object = new_object(worker.by, target.group, key, value);
-    let answer = add(worker.rt, core, seat, found.id, target.node, object);
-    core.put(seat);
+    let answer = add(worker.rt, seat, found.id, target.node, object);
+    seat.put();
     Answered {
         reply: reply_of(answer),
         found: Some(found),

@@ -1,5 +1,5 @@
 -- Going up a path, level by level.
-use Rattle.shr_charge.proofs.Common.{◌≡◌, ◌≢◌, ℕ, ◌+◌, ◌*◌, ◌<◌, ◌≤◌, ◌^◌, Bool, true, false, not, ◌&&◌, eqb, ltb, cond, List, [], ◌∷◌, ◌++◌, map, length, sym, refl, ap, subst, ◌∙◌, arith, append_assoc, length-append, ne_eqb, pos, Some, None, All, nat_tests, append-nil, length-map, sum_by_push, All-push, All-nil, Kept, UseStep, Serial, IsTree, parent_of, depth_of, ChargeSeat, Shape, Uses, both_uses, one_use, ups_at, downs_at, path_to, uses_of, tree_of, standing_of, call_count, use_group, IsLaterThan, AreRising, IsUp, calls_with, IsClimbing, Climbs, IsLowering, Lowers, ◌<ℤ◌, map_push, All-get_or, IsBelow, shape_limit, IsDown, IsNoted}
+use Rattle.shr_charge.proofs.Common.{◌≡◌, ◌≢◌, ℕ, ◌+◌, ◌*◌, ◌<◌, ◌≤◌, ◌^◌, Bool, true, false, not, ◌&&◌, eqb, ltb, cond, List, [], ◌∷◌, ◌++◌, map, length, sym, refl, ap, subst, ◌∙◌, arith, append_assoc, length-append, ne_eqb, pos, Some, None, All, nat_tests, append-nil, length-map, sum_by_push, All-push, All-nil, Kept, UseStep, Serial, IsTree, parent_of, depth_of, ChargeSeated, Shape, Uses, both_uses, one_use, IsPaced, ups_at, downs_at, path_to, uses_of, tree_of, standing_of, call_count, use_group, IsLaterThan, AreRising, IsUp, calls_with, IsClimbing, Climbs, IsLowering, Lowers, ◌<ℤ◌, map_push, All-get_or, IsBelow, shape_limit, IsDown, IsNoted}
 use Rattle.std.proofs.lemmas.List.Quantifiers.{all_pairs_push}
 use Rattle.shr_charge.proofs.Ways.{way_here, way_root, way_up, way_whole, way_some}
 use Rattle.shr_model.proofs.Numbers.{later}
@@ -8,8 +8,9 @@ pub uses_same : (x y : Uses) → x.ops ≡ y.ops → x.charges ≡ y.charges →
 uses_same x y o c d s = λ i. record { ops = o i; charges = c i; uncharges = d i; seats = s i }
 
 -- nothing was noted yet
-pub noted_none : (s : ChargeSeat) (uses : Kept UseStep) → IsNoted s s uses uses (calls_with [] 0 0)
+pub noted_none : (s : ChargeSeated) (uses : Kept UseStep) → IsNoted s s uses uses (calls_with [] 0 0)
 noted_none s uses = record {
+  table = refl;
   gains = uses_same (uses_of s) (both_uses (uses_of s) (calls_with [] 0 0)) (sym (append-nil (uses_of s).ops)) (omega arith) (omega arith) (omega arith);
   tree = refl;
   standing = refl;
@@ -22,12 +23,13 @@ rising_more : (ops : List UseStep) (o : UseStep) → AreRising ops → All (IsLa
 rising_more ops o rise later = all_pairs_push (λ x y. IsLaterThan y x) ops o rise (λ k d low. All-get_or (IsLaterThan o) ops k d low later)
 
 -- one operation more was noted
-pub noted_more : (old mid new : ChargeSeat) (uses um uses' : Kept UseStep) (ops : List UseStep) (c d x y c' d' : ℕ) (o : UseStep) → IsNoted old mid uses um (calls_with ops c d) → All (IsLaterThan o) (uses_of mid).ops → uses_of new ≡ both_uses (uses_of mid) (one_use o x y) → tree_of new ≡ tree_of mid → standing_of new ≡ standing_of mid
+pub noted_more : (old mid new : ChargeSeated) (uses um uses' : Kept UseStep) (ops : List UseStep) (c d x y c' d' : ℕ) (o : UseStep) → IsNoted old mid uses um (calls_with ops c d) → All (IsLaterThan o) (uses_of mid).ops → new ≡ record mid { uses = both_uses (uses_of mid) (one_use o x y) }
     → uses'.items ≡ um.items ++ o ∷ [] → uses'.spare + 1 ≡ um.spare → c + x ≡ c' → d + y ≡ d' → IsNoted old new uses uses' (calls_with (ops ++ o ∷ []) c' d')
-noted_more old mid new uses um uses' ops c d x y c' d' o n later gains tree standing items spare cx dy = let u : Uses = uses_of old in record {
+noted_more old mid new uses um uses' ops c d x y c' d' o n later did items spare cx dy = let u : Uses = uses_of old in let gains = ap uses_of did in record {
+  table = ap (λ (s : ChargeSeated). s.charge) did ∙ n.table;
   gains = gains ∙ (ap (λ (w : Uses). both_uses w (one_use o x y)) n.gains ∙ uses_same (both_uses (both_uses u (calls_with ops c d)) (one_use o x y)) (both_uses u (calls_with (ops ++ o ∷ []) c' d')) (append_assoc u.ops ops (o ∷ [])) (omega (arith, cx)) (omega (arith, dy)) (omega arith));
-  tree = tree ∙ n.tree;
-  standing = standing ∙ n.standing;
+  tree = ap tree_of did ∙ n.tree;
+  standing = ap standing_of did ∙ n.standing;
   noted = items ∙ (ap (λ l. l ++ o ∷ []) n.noted ∙ append_assoc uses.items ops (o ∷ []));
   spare = let a = n.spare in omega (arith, a, spare, length-append ops (o ∷ []));
   rise = λ r. subst AreRising (ap (λ (w : Uses). w.ops) (sym gains)) (rising_more (uses_of mid).ops o (n.rise r) later);
@@ -48,7 +50,7 @@ levels_end : (ops : List UseStep) (o : UseStep) (at : ℕ) → o.group ≡ at �
 levels_end ops o at e = map_push use_group ops o ∙ ap (λ (g : ℕ). map use_group ops ++ g ∷ []) e
 
 -- a climb begins with nothing charged
-pub climbing_first : (k : Shape) (by : Serial) (group : ℕ) (s : ChargeSeat) (uses : Kept UseStep) → ((j : ℕ) → ups_at j (uses_of s).ops ≤ (uses_of s).charges) → IsClimbing k by group group s s uses uses
+pub climbing_first : (k : Shape) (by : Serial) (group : ℕ) (s : ChargeSeated) (uses : Kept UseStep) → ((j : ℕ) → ups_at j (uses_of s).ops ≤ (uses_of s).charges) → IsClimbing k by group group s s uses uses
 climbing_first k by group s uses pace = record {
   ops = [];
   noted = subst (λ (n : ℕ). IsNoted s s uses uses (calls_with [] n 0)) (sym (at_group group)) (noted_none s uses);
@@ -58,7 +60,7 @@ climbing_first k by group s uses pace = record {
   inside = omega arith;
 }
 
-module _ (k : Shape) (tree : IsTree k.parents.items) (by : Serial) (group level : ℕ) (low : level < length k.parents.items) (old mid new : ChargeSeat) (uses um uses' : Kept UseStep) (c : IsClimbing k by group level old mid uses um) where
+module _ (k : Shape) (tree : IsTree k.parents.items) (by : Serial) (group level : ℕ) (low : level < length k.parents.items) (old mid new : ChargeSeated) (uses um uses' : Kept UseStep) (c : IsClimbing k by group level old mid uses um) where
   -- what the next step needs
   pub climbing_room : ups_at level (uses_of mid).ops + 1 ≤ (uses_of mid).charges + call_count (eqb level group)
   climbing_room = let p = c.pace level (omega arith) in let g = ap (λ (u : Uses). u.charges) c.noted.gains in omega (arith, p, g, first_or_later level group c.inside)
@@ -72,10 +74,10 @@ module _ (k : Shape) (tree : IsTree k.parents.items) (by : Serial) (group level 
   climbing_spare enough = let path = ap (length {A = ℕ}) (c.path 0 (omega arith)) in let whole = ap (length {A = ℕ}) (way_whole k.parents.items group) in let spare = c.noted.spare in
       omega (arith, path, whole, spare, enough, length-append (map use_group c.ops) (path_to k.parents.items level 0), length-map c.ops use_group, way_some k.parents.items level 0)
 
-  module _ (o : UseStep) (here : o.group ≡ level) (up : o.up ≡ true) (made : o.by ≡ by) (rises : All (IsLaterThan o) (uses_of mid).ops) (gains : uses_of new ≡ both_uses (uses_of mid) (one_use o (call_count (eqb level group)) 0)) (same-tree : tree_of new ≡ tree_of mid) (same-standing : standing_of new ≡ standing_of mid)
+  module _ (o : UseStep) (here : o.group ≡ level) (up : o.up ≡ true) (made : o.by ≡ by) (rises : All (IsLaterThan o) (uses_of mid).ops) (did : new ≡ record mid { uses = both_uses (uses_of mid) (one_use o (call_count (eqb level group)) 0) })
       (items : uses'.items ≡ um.items ++ o ∷ []) (spare : uses'.spare + 1 ≡ um.spare) where
     noted : IsNoted old new uses uses' (calls_with (c.ops ++ o ∷ []) 1 0)
-    noted = noted_more old mid new uses um uses' c.ops (call_count (ltb level group)) 0 (call_count (eqb level group)) 0 1 0 o c.noted rises gains same-tree same-standing items spare (first_or_later level group c.inside) refl
+    noted = noted_more old mid new uses um uses' c.ops (call_count (ltb level group)) 0 (call_count (eqb level group)) 0 1 0 o c.noted rises did items spare (first_or_later level group c.inside) refl
 
     -- one level of the climb
     pub climbing_next : IsBelow (shape_limit k o.group) o → 0 < level → IsClimbing k by group (parent_of k.parents.items level) old new uses uses'
@@ -84,25 +86,26 @@ module _ (k : Shape) (tree : IsTree k.parents.items) (by : Serial) (group level 
       noted = subst (λ (n : ℕ). IsNoted old new uses uses' (calls_with (c.ops ++ o ∷ []) n 0)) (sym (later up-level group (omega arith))) noted;
       each = All-push (IsUp k by) c.ops o c.each (record { up = up; made = made; below = below });
       path = λ last le. levels_more c.ops o level (path_to k.parents.items up-level last) here ∙ (ap (λ l. map use_group c.ops ++ l) (sym (way_up k.parents.items tree level last (λ e. absurd (omega arith)) above low)) ∙ c.path last (omega arith));
-      pace = λ j le. let g = ap (λ (u : Uses). ups_at j u.ops) gains in let more = sum_by_push (λ (x : UseStep). cond (eqb x.group j && x.up) 1 0) (uses_of mid).ops o in
+      pace = λ j le. let g = ap (λ (s : ChargeSeated). ups_at j (uses_of s).ops) did in let more = sum_by_push (λ (x : UseStep). cond (eqb x.group j && x.up) 1 0) (uses_of mid).ops o in
           let flag = ap {B = ℕ} (λ b. cond (b && o.up) 1 0) (ne_eqb o.group j (λ e. absurd (omega arith))) in let was = c.pace j (omega arith) in omega (arith, g, more, flag, was);
       inside = omega arith;
     }
 
     -- a climb that reached the root took every level
-    pub climbed : IsBelow (shape_limit k o.group) o → level ≡ 0 → Climbs k by group None old new uses uses'
-    climbed below root = record {
+    pub climbed : IsBelow (shape_limit k o.group) o → level ≡ 0 → IsPaced (uses_of old) → Climbs k by group None old new uses uses'
+    climbed below root paced = record {
       ops = c.ops ++ o ∷ [];
       noted = noted;
       made = record {
         at = levels_end c.ops o 0 (here ∙ root) ∙ (ap (λ l. map use_group c.ops ++ l) (sym (way_root k.parents.items 0)) ∙ (ap (λ (g : ℕ). map use_group c.ops ++ path_to k.parents.items g 0) (sym root) ∙ (c.path 0 (omega arith) ∙ way_whole k.parents.items group)));
         each = All-push (IsUp k by) c.ops o c.each (record { up = up; made = made; below = below });
       };
+      paced = paced;
     }
 
     -- a climb that met a level without room stopped there
-    pub stopped : (IsBelow (shape_limit k o.group) o → ⊥) → o.found <ℤ pos (2 ^ 32) → Climbs k by group (Some o) old new uses uses'
-    stopped above small = record {
+    pub stopped : (IsBelow (shape_limit k o.group) o → ⊥) → o.found <ℤ pos (2 ^ 32) → IsPaced (uses_of old) → Climbs k by group (Some o) old new uses uses'
+    stopped above small paced = record {
       ops = c.ops ++ o ∷ [];
       noted = noted;
       made = record {
@@ -113,6 +116,7 @@ module _ (k : Shape) (tree : IsTree k.parents.items) (by : Serial) (group level 
         refused = record { up = up; made = made; above = above };
         small = small;
       };
+      paced = paced;
     }
 
 first_or_later_of : (count : Bool) (level group : ℕ) → level ≤ group → ◌≡◌ {A = ℕ} (cond (count && ltb level group) 1 0 + cond (count && eqb level group) 1 0) (cond count 1 0)
@@ -128,7 +132,7 @@ at_group_of true group = at_group group
 at_group_of false group = refl
 
 -- a way down begins with nothing taken back
-pub lowering_first : (parents : List ℕ) (by : Serial) (group last : ℕ) (count : Bool) (s : ChargeSeat) (uses : Kept UseStep) → ((j : ℕ) → downs_at j (uses_of s).ops + 1 ≤ (uses_of s).charges + ((uses_of s).uncharges + call_count count)) → IsLowering parents by group last group count s s uses uses
+pub lowering_first : (parents : List ℕ) (by : Serial) (group last : ℕ) (count : Bool) (s : ChargeSeated) (uses : Kept UseStep) → ((j : ℕ) → downs_at j (uses_of s).ops + 1 ≤ (uses_of s).charges + ((uses_of s).uncharges + call_count count)) → IsLowering parents by group last group count s s uses uses
 lowering_first parents by group last count s uses pace = record {
   ops = [];
   noted = subst (λ (n : ℕ). IsNoted s s uses uses (calls_with [] 0 n)) (sym (at_group_of count group)) (noted_none s uses);
@@ -138,7 +142,7 @@ lowering_first parents by group last count s uses pace = record {
   inside = omega arith;
 }
 
-module _ (parents : List ℕ) (tree : IsTree parents) (by : Serial) (group last level : ℕ) (low : level < length parents) (count : Bool) (old mid new : ChargeSeat) (uses um uses' : Kept UseStep) (c : IsLowering parents by group last level count old mid uses um) where
+module _ (parents : List ℕ) (tree : IsTree parents) (by : Serial) (group last level : ℕ) (low : level < length parents) (count : Bool) (old mid new : ChargeSeated) (uses um uses' : Kept UseStep) (c : IsLowering parents by group last level count old mid uses um) where
   -- a down leaves the usage word in its bounds
   pub lowering_room : downs_at level (uses_of mid).ops + 1 ≤ (uses_of mid).charges + ((uses_of mid).uncharges + call_count (count && eqb level group))
   lowering_room = let p = c.pace level (omega arith) in let g = ap (λ (u : Uses). u.charges) c.noted.gains in let h = ap (λ (u : Uses). u.uncharges) c.noted.gains in omega (arith, p, g, h, first_or_later_of count level group c.inside)
@@ -152,10 +156,10 @@ module _ (parents : List ℕ) (tree : IsTree parents) (by : Serial) (group last 
   lowering_spare enough = let path = ap (length {A = ℕ}) c.path in let spare = c.noted.spare in
       omega (arith, path, spare, enough, length-append (map use_group c.ops) (path_to parents level last), length-map c.ops use_group, way_some parents level last)
 
-  module _ (o : UseStep) (here : o.group ≡ level) (down : o.up ≡ false) (made : o.by ≡ by) (rises : All (IsLaterThan o) (uses_of mid).ops) (gains : uses_of new ≡ both_uses (uses_of mid) (one_use o 0 (call_count (count && eqb level group)))) (same-tree : tree_of new ≡ tree_of mid) (same-standing : standing_of new ≡ standing_of mid)
+  module _ (o : UseStep) (here : o.group ≡ level) (down : o.up ≡ false) (made : o.by ≡ by) (rises : All (IsLaterThan o) (uses_of mid).ops) (did : new ≡ record mid { uses = both_uses (uses_of mid) (one_use o 0 (call_count (count && eqb level group))) })
       (items : uses'.items ≡ um.items ++ o ∷ []) (spare : uses'.spare + 1 ≡ um.spare) where
     lowered_noted : IsNoted old new uses uses' (calls_with (c.ops ++ o ∷ []) 0 (call_count count))
-    lowered_noted = noted_more old mid new uses um uses' c.ops 0 (call_count (count && ltb level group)) 0 (call_count (count && eqb level group)) 0 (call_count count) o c.noted rises gains same-tree same-standing items spare refl (first_or_later_of count level group c.inside)
+    lowered_noted = noted_more old mid new uses um uses' c.ops 0 (call_count (count && ltb level group)) 0 (call_count (count && eqb level group)) 0 (call_count count) o c.noted rises did items spare refl (first_or_later_of count level group c.inside)
 
     -- one level of the way
     pub lowering_next : level ≢ last → 0 < level → IsLowering parents by group last (parent_of parents level) count old new uses uses'
@@ -164,7 +168,7 @@ module _ (parents : List ℕ) (tree : IsTree parents) (by : Serial) (group last 
       noted = subst (λ (n : ℕ). IsNoted old new uses uses' (calls_with (c.ops ++ o ∷ []) 0 n)) (sym (later_of count up-level group (omega arith))) lowered_noted;
       each = All-push (IsDown by) c.ops o c.each (record { down = down; made = made });
       path = levels_more c.ops o level (path_to parents up-level last) here ∙ (ap (λ l. map use_group c.ops ++ l) (sym (way_up parents tree level last apart above low)) ∙ c.path);
-      pace = λ j le. let g = ap (λ (u : Uses). downs_at j u.ops) gains in let more = sum_by_push (λ (x : UseStep). cond (eqb x.group j && not x.up) 1 0) (uses_of mid).ops o in
+      pace = λ j le. let g = ap (λ (s : ChargeSeated). downs_at j (uses_of s).ops) did in let more = sum_by_push (λ (x : UseStep). cond (eqb x.group j && not x.up) 1 0) (uses_of mid).ops o in
           let flag = ap {B = ℕ} (λ b. cond (b && not o.up) 1 0) (ne_eqb o.group j (λ e. absurd (omega arith))) in let was = c.pace j (omega arith) in omega (arith, g, more, flag, was);
       inside = omega arith;
     }

@@ -34,15 +34,14 @@ pub use Rattle.shr_charge.specs.Paths.{path_to}
 pub use Rattle.shr_charge.specs.Rooms.{Decides, HoldsTreeRoom, Settles, Shown, hand_by, hand_made}
 pub use Rattle.shr_charge.specs.Rule.{IsChargeSound, first_charge_view, group_in, group_index, joined_charge_view, lock_in, new_charge_view, spent_charge_view, charge_standing_in, tree_in, usage_in, usage_index, uses_in, split_charge_view}
 pub use Rattle.shr_charge.specs.Searching.{AreMarkedGroups, is_like, entry_number}
-pub use Rattle.shr_charge.specs.Seat.{IsChargeSeat, counted, spent_by, standing_of, tree_of, uses_of}
+pub use Rattle.shr_charge.specs.Seat.{ChargeSeated, IsChargeSeat, IsFirstChargeOf, IsTokenOf, ChargeToken, counted, first_seated, seated_at, spent_by, standing_of, tree_of, uses_of}
 pub use Rattle.shr_charge.specs.Steps.{joined_tree, with_begin, with_done, with_tree_given, with_tree_hand, with_load, with_made}
-pub use Rattle.shr_charge.specs.Told.{IsWord, ChargeSat, Shows, TakesTreeRoom, TellsUse, is_there, state_in, with_tree, with_uses}
+pub use Rattle.shr_charge.specs.Told.{IsWord, ChargeSat, Shows, TakesTreeRoom, TellsUse, is_there, state_in, with_tree, with_uses, with_room_back}
 pub use Rattle.shr_charge.specs.Uses.{AreUsed, UseHistories, IsPaced, StandsInHistory, downs_at, grown, op_of, times_at, ups_at, usage_word}
 pub use Rattle.shr_charge.specs.Views.{TreeView, Uses, both_uses, no_tree, no_uses, one_use, own_uses}
 pub use Rattle.shr_charge.specs.declared.answers.GroupState.{GroupState}
 pub use Rattle.shr_charge.specs.declared.answers.GroupState.TheVariants.{NotMade, Offline, Online}
 pub use Rattle.shr_charge.specs.declared.table.Charge.{Charge}
-pub use Rattle.shr_charge.specs.declared.table.ChargeSeat.{ChargeSeat}
 pub use Rattle.shr_charge.specs.declared.view.View.{View}
 pub use lib.ListN.{get_elem?}
 pub use mathlib.Core.Option.{none, some, some-injective, some-ne-none}

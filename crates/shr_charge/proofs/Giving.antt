@@ -1,5 +1,5 @@
 -- What is left of a seat that gave the room back.
-use Rattle.shr_charge.proofs.Common.{◌≡◌, ℕ, ◌+◌, ◌<◌, ◌≤◌, true, false, List, [], ◌∷◌, ◌++◌, length, sym, refl, ap, subst, ◌∙◌, Some, append-nil, All-push, Kept, TreeEntry, begin_of, done_of, MayBeDone, MayFollow, Charge, ChargeSeat, View, Hierarchy, hierarchy_of, Uses, TreeView, IsPaced, IsTreeEntryMade, with_tree_hand, with_tree_given, with_done, ChargeSat, with_tree, HoldsTreeRoom, Shown, IsChargeSeat, uses_of, tree_of, standing_of, counted, Decides, Settles, hand_by, hand_made}
+use Rattle.shr_charge.proofs.Common.{◌≡◌, ℕ, ◌+◌, ◌<◌, true, false, List, [], ◌∷◌, ◌++◌, length, sym, refl, ap, subst, ◌∙◌, Some, append-nil, All-push, Kept, TreeEntry, begin_of, done_of, MayBeDone, MayFollow, ChargeToken, Hierarchy, TreeView, IsTreeEntryMade, with_tree_hand, with_tree_given, with_done, with_tree, with_room_back, HoldsTreeRoom, Shown, Decides, Settles, hand_by, hand_made}
 use Rattle.shr_base.specs.declared.journals.TreeEntry.TheVariants.{Begin, Done, Made as MadeEntry}
 use Rattle.shr_charge.specs.declared.answers.BeginAnswer.{BeginAnswer}
 use Rattle.shr_charge.specs.declared.answers.BeginAnswer.TheVariants as began
@@ -106,110 +106,73 @@ module _ (groups : Hierarchy) (t : TreeView) (room : Kept TreeEntry) (shown : Sh
   pub begun_there : (g b : ℕ) → begin_of t.known g ≡ Some b → begin_of room.items g ≡ Some b
   begun_there g b is = let grows = shown.seen.known in ap (λ l. begin_of l g) grows.1 ∙ begin_grows t.known g grows.0 b is
 
--- on seats
-module _ (c : Charge) (old new : ChargeSeat) (t : TreeView) (was : IsChargeSeat c old) (view : new.seat.me.0 ≡ record old.seat.me.0 { tree = t }) where
-  pub tree_is : tree_of new ≡ t
-  tree_is = ap (λ (v : View). v.tree) view
+-- the token after begin_in and give_tree
+pub begun_token : (old s1 s2 new : ChargeToken) (journal : List TreeEntry) (g : ℕ) (answer : BeginAnswer) → HoldsTreeRoom old s1 journal → s2 ≡ record s1 { me = with_tree s1.me (hand_by g answer s1.me.0.tree) } → new ≡ record s2 { me = with_room_back s2.me (with_tree_given s2.me.0.tree) }
+    → new ≡ record old { me = with_room_back old.me (with_tree_given (hand_by g answer (with_tree_hand old.me.0.tree journal))) }
+begun_token old s1 s2 new journal g answer has two three = three ∙ (ap (λ (s : ChargeToken). record s { me = with_room_back s.me (with_tree_given s.me.0.tree) }) two ∙ ap (λ (s : ChargeToken). record s { me = with_room_back s.me (with_tree_given (hand_by g answer s.me.0.tree)) }) has.now)
 
-  pub uses_is : uses_of new ≡ uses_of old
-  uses_is = ap (λ (v : View). v.uses) view
-
-  pub standing_is : standing_of new ≡ standing_of old
-  standing_is = ap (λ (v : View). v.standing) view
-
-  -- the seat is one of this table after the room was given back
-  pub back : t.in_hand ≡ false → new.seat.table_id ≡ old.seat.table_id → new.seat.me.1 ≡ [] → new.charges ≡ old.charges → new.uncharges ≡ old.uncharges → IsChargeSeat c new
-  back out table bare charges uncharges = record {
-    seat = record { same = table ∙ was.seat.same; here = ap (λ (v : View). v.standing.gone) view ∙ was.seat.here };
-    bare = bare;
-    out = ap (λ (x : TreeView). x.in_hand) tree_is ∙ out;
-    paced = subst IsPaced (sym uses_is) was.paced;
-    own = subst (λ (u : Uses). 1 ≤ u.seats) (sym uses_is) was.own;
-    charges = charges ∙ (was.charges ∙ ap (λ (u : Uses). counted u.charges) (sym uses_is));
-    uncharges = uncharges ∙ (was.uncharges ∙ ap (λ (u : Uses). counted u.uncharges) (sym uses_is));
-  }
-
--- the view after begin_in and give_tree
-pub begun_view : (c : Charge) (old s1 s2 new : ChargeSeat) (journal : List TreeEntry) (g : ℕ) (answer : BeginAnswer) → HoldsTreeRoom c old s1 journal → s2.seat.me ≡ with_tree s1.seat.me (hand_by g answer (tree_of s1)) → new.seat.me.0 ≡ record s2.seat.me.0 { tree = with_tree_given (tree_of s2) }
-    → new.seat.me.0 ≡ record old.seat.me.0 { tree = with_tree_given (hand_by g answer (with_tree_hand (tree_of old) journal)) }
-begun_view c old s1 s2 new journal g answer has two three = three ∙ (ap (λ (m : ChargeSat). record m.0 { tree = with_tree_given m.0.tree }) two ∙ ap (λ (v : View). record v { tree = with_tree_given (hand_by g answer v.tree) }) has.view)
-
--- the view after a room was taken and given back as it was
-pub given_view : (c : Charge) (old s1 new : ChargeSeat) (journal : List TreeEntry) → HoldsTreeRoom c old s1 journal → new.seat.me.0 ≡ record s1.seat.me.0 { tree = with_tree_given (tree_of s1) } → new.seat.me.0 ≡ record old.seat.me.0 { tree = with_tree_given (with_tree_hand (tree_of old) journal) }
-given_view c old s1 new journal has three = three ∙ ap (λ (v : View). record v { tree = with_tree_given v.tree }) has.view
+-- the token after a room was taken and given back as it was
+pub given_token : (old s1 new : ChargeToken) (journal : List TreeEntry) → HoldsTreeRoom old s1 journal → new ≡ record s1 { me = with_room_back s1.me (with_tree_given s1.me.0.tree) } → new ≡ record old { me = with_room_back old.me (with_tree_given (with_tree_hand old.me.0.tree journal)) }
+given_token old s1 new journal has three = three ∙ ap (λ (s : ChargeToken). record s { me = with_room_back s.me (with_tree_given s.me.0.tree) }) has.now
 
 -- and with a Done more
-pub done_view : (c : Charge) (old s1 new : ChargeSeat) (journal : List TreeEntry) (g : ℕ) → HoldsTreeRoom c old s1 journal → new.seat.me.0 ≡ record s1.seat.me.0 { tree = with_done (tree_of s1) g } → new.seat.me.0 ≡ record old.seat.me.0 { tree = with_done (with_tree_hand (tree_of old) journal) g }
-done_view c old s1 new journal g has three = three ∙ ap (λ (v : View). record v { tree = with_done v.tree g }) has.view
+pub done_token : (old s1 new : ChargeToken) (journal : List TreeEntry) (g : ℕ) → HoldsTreeRoom old s1 journal → new ≡ record s1 { me = with_room_back s1.me (with_done s1.me.0.tree g) } → new ≡ record old { me = with_room_back old.me (with_done (with_tree_hand old.me.0.tree journal) g) }
+done_token old s1 new journal g has three = three ∙ ap (λ (s : ChargeToken). record s { me = with_room_back s.me (with_done s.me.0.tree g) }) has.now
 
--- the view after make_in and give_tree
-pub made_view : (c : Charge) (old s1 s2 new : ChargeSeat) (journal : List TreeEntry) (g : ℕ) (answer : MakeAnswer) → HoldsTreeRoom c old s1 journal → s2.seat.me ≡ with_tree s1.seat.me (hand_made g answer (tree_of s1)) → new.seat.me.0 ≡ record s2.seat.me.0 { tree = with_tree_given (tree_of s2) }
-    → new.seat.me.0 ≡ record old.seat.me.0 { tree = with_tree_given (hand_made g answer (with_tree_hand (tree_of old) journal)) }
-made_view c old s1 s2 new journal g answer has two three = three ∙ (ap (λ (m : ChargeSat). record m.0 { tree = with_tree_given m.0.tree }) two ∙ ap (λ (v : View). record v { tree = with_tree_given (hand_made g answer v.tree) }) has.view)
+-- the token after make_in and give_tree
+pub made_token : (old s1 s2 new : ChargeToken) (journal : List TreeEntry) (g : ℕ) (answer : MakeAnswer) → HoldsTreeRoom old s1 journal → s2 ≡ record s1 { me = with_tree s1.me (hand_made g answer s1.me.0.tree) } → new ≡ record s2 { me = with_room_back s2.me (with_tree_given s2.me.0.tree) }
+    → new ≡ record old { me = with_room_back old.me (with_tree_given (hand_made g answer (with_tree_hand old.me.0.tree journal))) }
+made_token old s1 s2 new journal g answer has two three = three ∙ (ap (λ (s : ChargeToken). record s { me = with_room_back s.me (with_tree_given s.me.0.tree) }) two ∙ ap (λ (s : ChargeToken). record s { me = with_room_back s.me (with_tree_given (hand_made g answer s.me.0.tree)) }) has.now)
 
-given_out : (g : ℕ) (answer : BeginAnswer) (t : TreeView) → (with_tree_given (hand_by g answer t)).in_hand ≡ false
-given_out g answer t = refl
-
-module _ (c : Charge) (old new : ChargeSeat) (room : Kept TreeEntry) (g : ℕ) (was : IsChargeSeat c old) (shown : Shown (hierarchy_of c.shape) (tree_of old) room) where
-  module _ (above : 0 < g) (after : List TreeEntry) (answer : BeginAnswer) (d : Decides (hierarchy_of c.shape) g answer room.items after) (view : new.seat.me.0 ≡ record old.seat.me.0 { tree = with_tree_given (hand_by g answer (with_tree_hand (tree_of old) room.items)) }) where
-    is : tree_of new ≡ with_tree_given (hand_by g answer (with_tree_hand (tree_of old) room.items))
-    is = tree_is c old new (with_tree_given (hand_by g answer (with_tree_hand (tree_of old) room.items))) was view
-
+-- on what a seat did and saw
+module _ (h : Hierarchy) (old new : TreeView) (room : Kept TreeEntry) (g : ℕ) (shown : Shown h old room) where
+  module _ (above : 0 < g) (after : List TreeEntry) (answer : BeginAnswer) (d : Decides h g answer room.items after) (is : new ≡ with_tree_given (hand_by g answer (with_tree_hand old room.items))) where
     -- what `begin_offline` answers is told by the journal
-    pub offline_tells : BeginTells (hierarchy_of c.shape) g answer (tree_of old) (tree_of new).known
-    offline_tells = subst (λ (x : TreeView). BeginTells (hierarchy_of c.shape) g answer (tree_of old) x.known) (sym is) (begin_tells (hierarchy_of c.shape) (tree_of old) room shown g above after answer d)
+    pub offline_tells : BeginTells h g answer old new.known
+    offline_tells = subst (λ (x : TreeView). BeginTells h g answer old x.known) (sym is) (begin_tells h old room shown g above after answer d)
 
     -- what it leaves of the view
-    pub offline_leaves : BeginLeaves g answer (tree_of old) (tree_of new)
-    offline_leaves = subst (BeginLeaves g answer (tree_of old)) (sym is) (begin_leaves (hierarchy_of c.shape) (tree_of old) room shown g above after answer d)
+    pub offline_leaves : BeginLeaves g answer old new
+    offline_leaves = subst (BeginLeaves g answer old) (sym is) (begin_leaves h old room shown g above after answer d)
 
     -- and what the seat then knows
-    pub offline_knows : IfGiven answer (KnowsTree (hierarchy_of c.shape) (tree_of old) (tree_of new))
-    offline_knows = subst (λ (x : TreeView). IfGiven answer (KnowsTree (hierarchy_of c.shape) (tree_of old) x)) (sym is) (begin_knows (hierarchy_of c.shape) (tree_of old) room shown g above after answer d)
+    pub offline_knows : IfGiven answer (KnowsTree h old new)
+    offline_knows = subst (λ (x : TreeView). IfGiven answer (KnowsTree h old x)) (sym is) (begin_knows h old room shown g above after answer d)
 
   -- a group was made, or not
-  module _ (after : List TreeEntry) (answer : MakeAnswer) (d : Settles (hierarchy_of c.shape) g answer room.items after) (view : new.seat.me.0 ≡ record old.seat.me.0 { tree = with_tree_given (hand_made g answer (with_tree_hand (tree_of old) room.items)) }) where
-    makes : tree_of new ≡ with_tree_given (hand_made g answer (with_tree_hand (tree_of old) room.items))
-    makes = tree_is c old new (with_tree_given (hand_made g answer (with_tree_hand (tree_of old) room.items))) was view
-
+  module _ (after : List TreeEntry) (answer : MakeAnswer) (d : Settles h g answer room.items after) (is : new ≡ with_tree_given (hand_made g answer (with_tree_hand old room.items))) where
     -- what `make_group` answers is told by the journal
-    pub group_tells : MakeTells (hierarchy_of c.shape) g answer (tree_of old) (tree_of new).known
-    group_tells = subst (λ (x : TreeView). MakeTells (hierarchy_of c.shape) g answer (tree_of old) x.known) (sym makes) (make_tells (hierarchy_of c.shape) (tree_of old) room shown g after answer d)
+    pub group_tells : MakeTells h g answer old new.known
+    group_tells = subst (λ (x : TreeView). MakeTells h g answer old x.known) (sym is) (make_tells h old room shown g after answer d)
 
     -- what it leaves of the view
-    pub group_leaves : MakeLeaves g answer (tree_of old) (tree_of new)
-    group_leaves = subst (MakeLeaves g answer (tree_of old)) (sym makes) (make_leaves (hierarchy_of c.shape) (tree_of old) room shown g after answer d)
+    pub group_leaves : MakeLeaves g answer old new
+    group_leaves = subst (MakeLeaves g answer old) (sym is) (make_leaves h old room shown g after answer d)
 
     -- and what the seat then knows
-    pub group_knows : KnowsTree (hierarchy_of c.shape) (tree_of old) (tree_of new)
-    group_knows = subst (KnowsTree (hierarchy_of c.shape) (tree_of old)) (sym makes) (make_knows (hierarchy_of c.shape) (tree_of old) room shown g after answer d)
+    pub group_knows : KnowsTree h old new
+    group_knows = subst (KnowsTree h old) (sym is) (make_knows h old room shown g after answer d)
 
   -- done before
-  module _ (entry : ℕ) (found : done_of room.items g ≡ Some entry) (view : new.seat.me.0 ≡ record old.seat.me.0 { tree = with_tree_given (with_tree_hand (tree_of old) room.items) }) where
-    same : tree_of new ≡ with_tree_given (with_tree_hand (tree_of old) room.items)
-    same = tree_is c old new (with_tree_given (with_tree_hand (tree_of old) room.items)) was view
-
+  module _ (entry : ℕ) (found : done_of room.items g ≡ Some entry) (is : new ≡ with_tree_given (with_tree_hand old room.items)) where
     -- what `done_offline` answers of a group that was done
-    pub already_tells : DoneTells (hierarchy_of c.shape) g (ended.AlreadyDone entry) (tree_of old) (tree_of new).known
-    already_tells = subst (λ (x : TreeView). DoneTells (hierarchy_of c.shape) g (ended.AlreadyDone entry) (tree_of old) x.known) (sym same) found
+    pub already_tells : DoneTells h g (ended.AlreadyDone entry) old new.known
+    already_tells = subst (λ (x : TreeView). DoneTells h g (ended.AlreadyDone entry) old x.known) (sym is) found
 
-    pub already_leaves : DoneLeaves g (ended.AlreadyDone entry) (tree_of old) (tree_of new)
-    already_leaves = subst (DoneLeaves g (ended.AlreadyDone entry) (tree_of old)) (sym same) (leaves_same (hierarchy_of c.shape) (tree_of old) room shown)
+    pub already_leaves : DoneLeaves g (ended.AlreadyDone entry) old new
+    already_leaves = subst (DoneLeaves g (ended.AlreadyDone entry) old) (sym is) (leaves_same h old room shown)
 
-    pub already_knows : KnowsTree (hierarchy_of c.shape) (tree_of old) (tree_of new)
-    already_knows = subst (KnowsTree (hierarchy_of c.shape) (tree_of old)) (sym same) (knows_same (hierarchy_of c.shape) (tree_of old) room shown)
+    pub already_knows : KnowsTree h old new
+    already_knows = subst (KnowsTree h old) (sym is) (knows_same h old room shown)
 
   -- done now
-  module _ (entry : ℕ) (number : entry ≡ length room.items) (may : MayBeDone room.items g) (view : new.seat.me.0 ≡ record old.seat.me.0 { tree = with_done (with_tree_hand (tree_of old) room.items) g }) where
-    more : tree_of new ≡ with_done (with_tree_hand (tree_of old) room.items) g
-    more = tree_is c old new (with_done (with_tree_hand (tree_of old) room.items) g) was view
-
+  module _ (entry : ℕ) (number : entry ≡ length room.items) (may : MayBeDone room.items g) (is : new ≡ with_done (with_tree_hand old room.items) g) where
     -- what `done_offline` answers of a group that is done now
-    pub done_tells : DoneTells (hierarchy_of c.shape) g (ended.Done entry) (tree_of old) (tree_of new).known
-    done_tells = subst (λ (x : TreeView). DoneTells (hierarchy_of c.shape) g (ended.Done entry) (tree_of old) x.known) (sym more) (record { before = room.items; gains = record { whole = refl; number_is = number }; may = may; seen = shown.seen })
+    pub done_tells : DoneTells h g (ended.Done entry) old new.known
+    done_tells = subst (λ (x : TreeView). DoneTells h g (ended.Done entry) old x.known) (sym is) (record { before = room.items; gains = record { whole = refl; number_is = number }; may = may; seen = shown.seen })
 
-    pub done_leaves : DoneLeaves g (ended.Done entry) (tree_of old) (tree_of new)
-    done_leaves = subst (DoneLeaves g (ended.Done entry) (tree_of old)) (sym more) (ap (λ (n : ℕ). gave (tree_of old) ((record { number = n; entry = Done g }) ∷ []) (room.items ++ Done g ∷ [])) (sym number))
+    pub done_leaves : DoneLeaves g (ended.Done entry) old new
+    done_leaves = subst (DoneLeaves g (ended.Done entry) old) (sym is) (ap (λ (n : ℕ). gave old ((record { number = n; entry = Done g }) ∷ []) (room.items ++ Done g ∷ [])) (sym number))
 
-    pub done_shows : KnowsTree (hierarchy_of c.shape) (tree_of old) (tree_of new)
-    done_shows = subst (KnowsTree (hierarchy_of c.shape) (tree_of old)) (sym more) (done_knows (hierarchy_of c.shape) (tree_of old) room shown g may)
+    pub done_shows : KnowsTree h old new
+    done_shows = subst (KnowsTree h old) (sym is) (done_knows h old room shown g may)

@@ -5,13 +5,12 @@ use Rattle.shr_base.specs.declared.journals.UseStep.{UseStep}
 use Rattle.shr_base.specs.declared.places.Serial.{Serial}
 use Rattle.shr_model.specs.Groups.{path_of}
 use Rattle.shr_model.specs.Charges.{IsBelow}
-use Rattle.shr_charge.specs.declared.table.ChargeSeat.{ChargeSeat}
 use Rattle.shr_seats.specs.declared.shape.Shape.{Shape}
 use Rattle.shr_charge.specs.declared.answers.ChargeAnswer.{ChargeAnswer}
 use Rattle.shr_charge.specs.declared.answers.ChargeAnswer.TheVariants.{Charged, Over}
 use Rattle.shr_charge.specs.Views.{Uses, both_uses}
 use Rattle.shr_charge.specs.Paths.{path_to}
-use Rattle.shr_charge.specs.Seat.{uses_of, tree_of, standing_of}
+use Rattle.shr_charge.specs.Seat.{ChargeSeated, uses_of, tree_of, standing_of}
 
 -- 1 if an operation begins a call that counts, else 0
 abbrev pub call_count : Bool → ℕ
@@ -82,7 +81,8 @@ ChargeOps k by group (Over level number usage) ops = IsChargeRefused k by group 
 
 -- the view gained these operations and calls, each operation was noted, and nothing else of the
 -- seat changed
-pub record IsNoted (old new : ChargeSeat) (uses uses' : Kept UseStep) (more : Uses) : Type 0 where
+pub record IsNoted (old new : ChargeSeated) (uses uses' : Kept UseStep) (more : Uses) : Type 0 where
+  pub table : new.charge ≡ old.charge
   pub gains : uses_of new ≡ both_uses (uses_of old) more
   pub tree : tree_of new ≡ tree_of old
   pub standing : standing_of new ≡ standing_of old
@@ -95,13 +95,13 @@ abbrev pub calls_with : List UseStep → ℕ → ℕ → Uses
 calls_with ops c d = record { ops = ops; charges = c; uncharges = d; seats = 0 }
 
 -- one charge was made
-pub record Charges (k : Shape) (by : Serial) (group : ℕ) (answer : ChargeAnswer) (old new : ChargeSeat) (uses uses' : Kept UseStep) : Type 0 where
+pub record Charges (k : Shape) (by : Serial) (group : ℕ) (answer : ChargeAnswer) (old new : ChargeSeated) (uses uses' : Kept UseStep) : Type 0 where
   pub ops : List UseStep
   pub noted : IsNoted old new uses uses' (calls_with ops 1 0)
   pub made : ChargeOps k by group answer ops
 
 -- one uncharge was made
-pub record UnchargesOne (k : Shape) (by : Serial) (group : ℕ) (old new : ChargeSeat) (uses uses' : Kept UseStep) : Type 0 where
+pub record UnchargesOne (k : Shape) (by : Serial) (group : ℕ) (old new : ChargeSeated) (uses uses' : Kept UseStep) : Type 0 where
   pub ops : List UseStep
   pub noted : IsNoted old new uses uses' (calls_with ops 0 1)
   pub made : AreDowns by (path_of k.parents.items group) ops

@@ -4,15 +4,14 @@ use Rattle.shr_base.specs.Kept.{Kept}
 use Rattle.shr_base.specs.declared.journals.UseStep.{UseStep}
 use Rattle.shr_base.specs.declared.places.Serial.{Serial}
 use Rattle.shr_model.specs.Groups.{path_of}
-use Rattle.shr_charge.specs.declared.table.ChargeSeat.{ChargeSeat}
 use Rattle.shr_seats.specs.declared.shape.Shape.{Shape}
-use Rattle.shr_charge.specs.Uses.{ups_at, downs_at}
+use Rattle.shr_charge.specs.Uses.{IsPaced, ups_at, downs_at}
 use Rattle.shr_charge.specs.Paths.{path_to}
-use Rattle.shr_charge.specs.Seat.{uses_of}
+use Rattle.shr_charge.specs.Seat.{ChargeSeated, uses_of}
 use Rattle.shr_charge.specs.Charging.{call_count, use_group, IsUp, IsDown, IsOverLimit, AreUps, AreDowns, IsNoted, calls_with}
 
 -- the levels below this one on the path of the group were charged
-pub record IsClimbing (k : Shape) (by : Serial) (group level : ℕ) (old new : ChargeSeat) (uses uses' : Kept UseStep) : Type 0 where
+pub record IsClimbing (k : Shape) (by : Serial) (group level : ℕ) (old new : ChargeSeated) (uses uses' : Kept UseStep) : Type 0 where
   pub ops : List UseStep
   pub noted : IsNoted old new uses uses' (calls_with ops (call_count (nat_lt level group)) 0)
   pub each : All (IsUp k by) ops
@@ -34,14 +33,15 @@ abbrev pub ClimbOps : Shape → Serial → ℕ → Option UseStep → List UseSt
 ClimbOps k by group None ops = AreUps k by (path_of k.parents.items group) ops
 ClimbOps k by group (Some over) ops = IsChargeStopped k by group over ops
 
--- a climb took every level, or stopped at the operation that it answers
-pub record Climbs (k : Shape) (by : Serial) (group : ℕ) (answer : Option UseStep) (old new : ChargeSeat) (uses uses' : Kept UseStep) : Type 0 where
+-- a climb of a paced seat took every level, or stopped at the operation that it answers
+pub record Climbs (k : Shape) (by : Serial) (group : ℕ) (answer : Option UseStep) (old new : ChargeSeated) (uses uses' : Kept UseStep) : Type 0 where
   pub ops : List UseStep
   pub noted : IsNoted old new uses uses' (calls_with ops 1 0)
   pub made : ClimbOps k by group answer ops
+  pub paced : IsPaced (uses_of old)
 
 -- the levels below this one on the path of the group were taken back
-pub record IsLowering (parents : List ℕ) (by : Serial) (group last level : ℕ) (count : Bool) (old new : ChargeSeat) (uses uses' : Kept UseStep) : Type 0 where
+pub record IsLowering (parents : List ℕ) (by : Serial) (group last level : ℕ) (count : Bool) (old new : ChargeSeated) (uses uses' : Kept UseStep) : Type 0 where
   pub ops : List UseStep
   pub noted : IsNoted old new uses uses' (calls_with ops 0 (call_count (count && nat_lt level group)))
   pub each : All (IsDown by) ops
@@ -50,7 +50,7 @@ pub record IsLowering (parents : List ℕ) (by : Serial) (group last level : ℕ
   pub inside : level ≤ group
 
 -- each level of the path up to `last` was taken back
-pub record Lowers (parents : List ℕ) (by : Serial) (group last : ℕ) (count : Bool) (old new : ChargeSeat) (uses uses' : Kept UseStep) : Type 0 where
+pub record Lowers (parents : List ℕ) (by : Serial) (group last : ℕ) (count : Bool) (old new : ChargeSeated) (uses uses' : Kept UseStep) : Type 0 where
   pub ops : List UseStep
   pub noted : IsNoted old new uses uses' (calls_with ops 0 (call_count count))
   pub made : AreDowns by (path_to parents group last) ops

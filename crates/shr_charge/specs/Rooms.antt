@@ -1,4 +1,4 @@
--- A seat with the tree room in hand. No public clause cites this.
+-- A token with the tree room in hand. No public clause cites this.
 use Rattle.std.specs.Prelude.{◌≡◌, ℕ, ◌*◌, ◌≤◌, true, false, List, [], ◌∷◌, length, Some, None}
 use Rattle.shr_base.specs.Kept.{Kept}
 use Rattle.shr_base.specs.declared.journals.TreeEntry.{TreeEntry}
@@ -7,25 +7,18 @@ use Rattle.shr_model.specs.Groups.{Hierarchy, parent_of}
 use Rattle.shr_model.specs.TreeJournal.{begin_of, done_of, made_of, is_made, undone_child, MayBegin, MayBeMade, IsTreeJournal}
 use Rattle.shr_charge.specs.declared.answers.MakeAnswer.{MakeAnswer}
 use Rattle.shr_charge.specs.declared.answers.MakeAnswer.TheVariants as make
-use Rattle.shr_charge.specs.declared.table.Charge.{Charge}
-use Rattle.shr_charge.specs.declared.table.ChargeSeat.{ChargeSeat}
 use Rattle.shr_charge.specs.declared.answers.BeginAnswer.{BeginAnswer}
 use Rattle.shr_charge.specs.declared.answers.BeginAnswer.TheVariants as began
 use Rattle.shr_charge.specs.Answers.{GainsEntry}
 use Rattle.shr_charge.specs.Views.{TreeView}
 use Rattle.shr_charge.specs.Offlining.{opens, IsTreeSeen}
 use Rattle.shr_charge.specs.Steps.{with_tree_hand, with_begin, with_made}
-use Rattle.shr_charge.specs.Seat.{IsChargeSeat, tree_of}
+use Rattle.shr_charge.specs.Seat.{ChargeToken}
 
--- The seat `new` is `old`, a seat of this table, but for the room with this journal, which it has
--- in hand.
-pub record HoldsTreeRoom (c : Charge) (old new : ChargeSeat) (journal : List TreeEntry) : Type 0 where
-  pub was : IsChargeSeat c old
-  pub table : new.seat.table_id ≡ old.seat.table_id
-  pub view : new.seat.me.0 ≡ record old.seat.me.0 { tree = with_tree_hand (tree_of old) journal }
-  pub slot : (left : Kept TreeEntry) × (new.seat.me.1 ≡ (0, left) ∷ [])
-  pub charges : new.charges ≡ old.charges
-  pub uncharges : new.uncharges ≡ old.uncharges
+-- The token `new` is `old`, but for the room with this journal, which it has in hand.
+pub record HoldsTreeRoom (old new : ChargeToken) (journal : List TreeEntry) : Type 0 where
+  pub left : Kept TreeEntry
+  pub now : new ≡ record old { me = (record old.me.0 { tree = with_tree_hand old.me.0.tree journal }, (0, left) ∷ []) }
 
 -- what an answer of begin_offline leaves of a view that has the room in hand
 abbrev pub hand_by : ℕ → BeginAnswer → TreeView → TreeView

@@ -30,6 +30,10 @@ TellsUse m o charges uncharges r = (r ≡ with_uses m (both_uses m.0.uses (one_u
 abbrev pub with_tree : ChargeSat → TreeView → ChargeSat
 with_tree m t = (record m.0 { tree = t }, m.1)
 
+-- the seat that gave the room back, and did and saw this of the tree
+abbrev pub with_room_back : ChargeSat → TreeView → ChargeSat
+with_room_back m t = (record m.0 { tree = t }, [])
+
 -- a group is online or offline
 abbrev pub is_there : GroupState → Bool
 is_there Online = true

@@ -6,7 +6,7 @@ ghost use Rattle.shr_model.specs.Groups.{parent_of, depth_of};
 ghost use Rattle.shr_charge.specs.Charging.{call_count, shape_limit, Charges, UnchargesOne, IsLaterThan};
 ghost use Rattle.shr_charge.specs.Loops.{Climbs, Lowers};
 ghost use Rattle.shr_charge.specs.Paths.{path_to};
-ghost use Rattle.shr_charge.specs.Seat.{IsChargeSeat, uses_of, tree_of, standing_of};
+ghost use Rattle.shr_charge.specs.Seat.{uses_of};
 ghost use Rattle.shr_charge.specs.Uses.{op_of, ups_at, downs_at};
 ghost use Rattle.shr_charge.specs.Views.{both_uses, one_use};
 
@@ -46,68 +46,6 @@ fn is_first(count: bool, at: u16, group: u16) -> bool
 }
 
 impl Charge {
-    // Adds one to a group's usage. Linux: the addition of `page_counter_try_charge` in
-    // mm/page_counter.c.
-    fn add_up(&self, seat: &mut ChargeSeat, by: Serial, group: u16, first: bool) -> UseStep
-        requires group { group < length self.now.shape.parents.items }
-        requires seat { IsChargeSeat self.now seat.old }
-        requires room { ups_at group (uses_of seat.old).ops + 1 ≤ (uses_of seat.old).charges
-            + call_count first }
-        requires calls { (uses_of seat.old).charges + call_count first
-            ≤ 2 ^ 21 * (uses_of seat.old).seats }
-        ensures seat { IsChargeSeat self.now seat.new }
-        ensures group { result.group ≡ group }
-        ensures up { result.up ≡ true }
-        ensures by { result.by ≡ by }
-        ensures small { result.found <ℤ pos (2 ^ 32) }
-        ensures gains { uses_of seat.new ≡ both_uses (uses_of seat.old)
-            (one_use result (call_count first) 0) }
-        ensures later { All (IsLaterThan result) (uses_of seat.old).ops }
-        ensures tree { tree_of seat.new ≡ tree_of seat.old }
-        ensures standing { standing_of seat.new ≡ standing_of seat.old }
-    {
-        let word = self.add_as::<Brand>(
-            &mut seat.seat,
-            WORDS_A_GROUP * group as usize + 1,
-            ONE_UP,
-            group,
-            by,
-            first,
-        );
-        seat.charges = seat.charges.saturating_add(first as u32);
-        step_of(group, by, true, word)
-    }
-
-    // Takes one from a group's usage. Linux: `page_counter_cancel` in mm/page_counter.c.
-    fn add_down(&self, seat: &mut ChargeSeat, by: Serial, group: u16, first: bool) -> UseStep
-        requires group { group < length self.now.shape.parents.items }
-        requires seat { IsChargeSeat self.now seat.old }
-        requires room { downs_at group (uses_of seat.old).ops + 1 ≤ (uses_of seat.old).charges
-            + ((uses_of seat.old).uncharges + call_count first) }
-        requires calls { (uses_of seat.old).uncharges + call_count first
-            ≤ 2 ^ 25 * (uses_of seat.old).seats }
-        ensures seat { IsChargeSeat self.now seat.new }
-        ensures group { result.group ≡ group }
-        ensures up { result.up ≡ false }
-        ensures by { result.by ≡ by }
-        ensures gains { uses_of seat.new ≡ both_uses (uses_of seat.old)
-            (one_use result 0 (call_count first)) }
-        ensures later { All (IsLaterThan result) (uses_of seat.old).ops }
-        ensures tree { tree_of seat.new ≡ tree_of seat.old }
-        ensures standing { standing_of seat.new ≡ standing_of seat.old }
-    {
-        let word = self.add_as::<Brand>(
-            &mut seat.seat,
-            WORDS_A_GROUP * group as usize + 1,
-            1,
-            group,
-            by,
-            first,
-        );
-        seat.uncharges = seat.uncharges.saturating_add(first as u32);
-        step_of(group, by, false, word)
-    }
-
     // Whether an operation found the usage of its group below the limit.
     fn is_below(&self, step: &UseStep) -> bool
         requires { step.now.group < length self.now.shape.parents.items }
@@ -128,67 +66,112 @@ impl Charge {
     {
         self.shape.parents.as_slice()[group as usize]
     }
+}
+
+impl<'a> ChargeSeat<'a> {
+    // Adds one to a group's usage. Linux: the addition of `page_counter_try_charge` in
+    // mm/page_counter.c.
+    fn add_up(&mut self, by: Serial, group: u16, first: bool) -> UseStep
+        requires group { group < length self.old.charge.shape.parents.items }
+        requires room { ups_at group (uses_of self.old).ops + 1 ≤ (uses_of self.old).charges
+            + call_count first }
+        requires calls { (uses_of self.old).charges + call_count first
+            ≤ 2 ^ 21 * (uses_of self.old).seats }
+        ensures group { result.group ≡ group }
+        ensures up { result.up ≡ true }
+        ensures by { result.by ≡ by }
+        ensures small { result.found <ℤ pos (2 ^ 32) }
+        ensures gains { self.new ≡ record self.old {
+          uses = both_uses (uses_of self.old)
+              (one_use result (call_count first) 0);
+        } }
+        ensures later { All (IsLaterThan result) (uses_of self.old).ops }
+    {
+        let word = self.charge.add_as::<Brand>(
+            &mut self.token,
+            WORDS_A_GROUP * group as usize + 1,
+            ONE_UP,
+            group,
+            by,
+            first,
+        );
+        self.charges = self.charges.saturating_add(first as u32);
+        step_of(group, by, true, word)
+    }
+
+    // Takes one from a group's usage. Linux: `page_counter_cancel` in mm/page_counter.c.
+    fn add_down(&mut self, by: Serial, group: u16, first: bool) -> UseStep
+        requires group { group < length self.old.charge.shape.parents.items }
+        requires room { downs_at group (uses_of self.old).ops + 1 ≤ (uses_of self.old).charges
+            + ((uses_of self.old).uncharges + call_count first) }
+        requires calls { (uses_of self.old).uncharges + call_count first
+            ≤ 2 ^ 25 * (uses_of self.old).seats }
+        ensures group { result.group ≡ group }
+        ensures up { result.up ≡ false }
+        ensures by { result.by ≡ by }
+        ensures gains { self.new ≡ record self.old {
+          uses = both_uses (uses_of self.old)
+              (one_use result 0 (call_count first));
+        } }
+        ensures later { All (IsLaterThan result) (uses_of self.old).ops }
+    {
+        let word = self.charge.add_as::<Brand>(
+            &mut self.token,
+            WORDS_A_GROUP * group as usize + 1,
+            1,
+            group,
+            by,
+            first,
+        );
+        self.uncharges = self.uncharges.saturating_add(first as u32);
+        step_of(group, by, false, word)
+    }
 
     // Charges a group and its ancestors up to the first level that has no room, and gives that
     // operation.
-    fn climb(
-        &self,
-        seat: &mut ChargeSeat,
-        uses: &mut Log<UseStep>,
-        by: Serial,
-        group: u16,
-    ) -> Option<UseStep>
-        requires group { group < length self.now.shape.parents.items }
-        requires seat { IsChargeSeat self.now seat.old }
-        requires calls { (uses_of seat.old).charges < 2 ^ 21 }
-        requires spare { depth_of self.now.shape.parents.items group ≤ uses.old.spare }
-        ensures seat { IsChargeSeat self.now seat.new }
-        ensures climbs { Climbs self.now.shape by group result seat.old seat.new uses.old uses.new }
+    fn climb(&mut self, uses: &mut Log<UseStep>, by: Serial, group: u16) -> Option<UseStep>
+        requires group { group < length self.old.charge.shape.parents.items }
+        requires calls { (uses_of self.old).charges < 2 ^ 21 }
+        requires spare { depth_of self.old.charge.shape.parents.items group ≤ uses.old.spare }
+        ensures climbs { Climbs self.old.charge.shape by group result self.old self.new uses.old
+            uses.new }
     {
+        let charge = self.charge;
         let mut at = group;
         'climbing: loop {
-            let step = self.add_up(seat, by, at, at == group);
+            let step = self.add_up(by, at, at == group);
             uses.push(step);
-            if !self.is_below(&step) {
+            if !charge.is_below(&step) {
                 return Some(step);
             }
             if at == 0 {
                 return None;
             }
-            at = self.parent(at);
+            at = charge.parent(at);
         }
     }
 
     // Takes one from a group's usage and from those of its ancestors up to `last`.
-    fn lower(
-        &self,
-        seat: &mut ChargeSeat,
-        uses: &mut Log<UseStep>,
-        by: Serial,
-        group: u16,
-        last: u16,
-        count: bool,
-    )
-        requires group { group < length self.now.shape.parents.items }
-        requires seat { IsChargeSeat self.now seat.old }
-        requires room { (j : ℕ) → downs_at j (uses_of seat.old).ops + 1
-            ≤ (uses_of seat.old).charges + ((uses_of seat.old).uncharges + call_count count) }
-        requires calls { (uses_of seat.old).uncharges + call_count count
-            ≤ 2 ^ 25 * (uses_of seat.old).seats }
-        requires spare { length (path_to self.now.shape.parents.items group last) ≤ uses.old.spare }
-        ensures seat { IsChargeSeat self.now seat.new }
-        ensures lowers { Lowers self.now.shape.parents.items by group last count seat.old seat.new
-            uses.old uses.new }
+    fn lower(&mut self, uses: &mut Log<UseStep>, by: Serial, group: u16, last: u16, count: bool)
+        requires group { group < length self.old.charge.shape.parents.items }
+        requires room { count ≡ false → (j : ℕ) → downs_at j (uses_of self.old).ops
+            < (uses_of self.old).charges + (uses_of self.old).uncharges }
+        requires calls { count ≡ true → (uses_of self.old).uncharges < 2 ^ 25 }
+        requires spare { length (path_to self.old.charge.shape.parents.items group last)
+            ≤ uses.old.spare }
+        ensures lowers { Lowers self.old.charge.shape.parents.items by group last count self.old
+            self.new uses.old uses.new }
     {
+        let charge = self.charge;
         let mut at = group;
         'lowering: loop {
             let first = is_first(count, at, group);
-            let step = self.add_down(seat, by, at, first);
+            let step = self.add_down(by, at, first);
             uses.push(step);
             if at == last || at == 0 {
                 return;
             }
-            at = self.parent(at);
+            at = charge.parent(at);
         }
     }
 
@@ -198,25 +181,17 @@ impl Charge {
     /// every level that was charged, that one too, and meanwhile others may find these usages too
     /// high. Each operation is appended to `uses`. It takes no memory and doesn't wait. Linux:
     /// `page_counter_try_charge` in mm/page_counter.c, which takes back the refusing level first.
-    pub fn charge(
-        &self,
-        seat: &mut ChargeSeat,
-        uses: &mut Log<UseStep>,
-        by: Serial,
-        group: u16,
-    ) -> ChargeAnswer
-        requires group { group < length self.now.shape.parents.items }
-        requires seat { IsChargeSeat self.now seat.old }
-        requires calls { (uses_of seat.old).charges < 2 ^ 21 }
-        requires spare { 2 * depth_of self.now.shape.parents.items group ≤ uses.old.spare }
-        ensures seat { IsChargeSeat self.now seat.new }
-        ensures charges { Charges self.now.shape by group result seat.old seat.new uses.old
+    pub fn charge(&mut self, uses: &mut Log<UseStep>, by: Serial, group: u16) -> ChargeAnswer
+        requires group { group < length self.old.charge.shape.parents.items }
+        requires calls { (uses_of self.old).charges < 2 ^ 21 }
+        requires spare { 2 * depth_of self.old.charge.shape.parents.items group ≤ uses.old.spare }
+        ensures charges { Charges self.old.charge.shape by group result self.old self.new uses.old
             uses.new }
     {
-        let Some(over) = self.climb(seat, uses, by, group) else {
+        let Some(over) = self.climb(uses, by, group) else {
             return ChargeAnswer::Charged;
         };
-        self.lower(seat, uses, by, group, over.group, false);
+        self.lower(uses, by, group, over.group, false);
         ChargeAnswer::Over {
             group: over.group,
             operation: over.operation as u64,
@@ -228,15 +203,13 @@ impl Charge {
     ///
     /// Each operation is appended to `uses`. It takes no memory and doesn't wait. Linux:
     /// `page_counter_uncharge` in mm/page_counter.c.
-    pub fn uncharge(&self, seat: &mut ChargeSeat, uses: &mut Log<UseStep>, by: Serial, group: u16)
-        requires group { group < length self.now.shape.parents.items }
-        requires seat { IsChargeSeat self.now seat.old }
-        requires calls { (uses_of seat.old).uncharges < 2 ^ 25 }
-        requires spare { depth_of self.now.shape.parents.items group ≤ uses.old.spare }
-        ensures seat { IsChargeSeat self.now seat.new }
-        ensures uncharges { UnchargesOne self.now.shape by group seat.old seat.new uses.old
+    pub fn uncharge(&mut self, uses: &mut Log<UseStep>, by: Serial, group: u16)
+        requires group { group < length self.old.charge.shape.parents.items }
+        requires calls { (uses_of self.old).uncharges < 2 ^ 25 }
+        requires spare { depth_of self.old.charge.shape.parents.items group ≤ uses.old.spare }
+        ensures uncharges { UnchargesOne self.old.charge.shape by group self.old self.new uses.old
             uses.new }
     {
-        self.lower(seat, uses, by, group, 0, true);
+        self.lower(uses, by, group, 0, true);
     }
 }

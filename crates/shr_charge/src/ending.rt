@@ -6,10 +6,10 @@ ghost use Rattle.std.specs.Mem.Slots.{slots_items, slots_len, IsFull};
 ghost use Rattle.shr_seats.specs.Standing.{IsWhole};
 ghost use Rattle.shr_seats.specs.Shapes.{hierarchy_of};
 ghost use Rattle.shr_charge.specs.Rule.{usage_in};
-ghost use Rattle.shr_charge.specs.Seat.{IsChargeSeat, uses_of, tree_of, standing_of};
+ghost use Rattle.shr_charge.specs.Seat.{IsFirstChargeOf, first_seated, first_standing, first_tree, first_uses};
 ghost use Rattle.shr_charge.specs.Ends.{IsEndOf};
 
-use crate::table::{Charge, ChargeSeat};
+use crate::table::{Charge, ChargeSeat, FirstChargeSeat};
 use crate::words::WORDS_A_GROUP;
 use atomic_table::Closed;
 use shr_base::ends::ChargeEnd;
@@ -35,27 +35,48 @@ fn usage_of(
     Ok(usage)
 }
 
+impl<'a> ChargeSeat<'a> {
+    /// Takes the first seat from its table, with what it did and saw. Our own.
+    pub fn leave(self) -> FirstChargeSeat
+        requires first { self.standing.first ≡ true }
+        ensures first { IsFirstChargeOf self.entry.charge result }
+        ensures seated { first_seated self.entry.charge result ≡ self.entry }
+    {
+        let ChargeSeat {
+            charge: _,
+            token,
+            charges,
+            uncharges,
+        } = self;
+        FirstChargeSeat {
+            token,
+            charges,
+            uncharges,
+        }
+    }
+}
+
 impl Charge {
     /// Ends the table, and gives the journal of the tree and each group's usage word. By then all
     /// other seats were joined into the first one, whose view has each operation and each entry. On
     /// `Memory` the table is gone too. Our own.
-    pub fn finish(self, seat: ChargeSeat) -> Result<ChargeEnd, Memory>
-        requires seat { IsChargeSeat self seat }
-        requires first { (standing_of seat).first ≡ true }
-        requires whole { IsWhole (standing_of seat) }
-        ensures { IfOk result (IsEndOf (hierarchy_of self.shape) (uses_of seat) (tree_of seat)) }
+    pub fn finish(self, first: FirstChargeSeat) -> Result<ChargeEnd, Memory>
+        requires first { IsFirstChargeOf self first }
+        requires whole { IsWhole (first_standing first) }
+        ensures { IfOk result (IsEndOf (hierarchy_of self.shape) (first_uses first)
+            (first_tree first)) }
     {
         let Charge {
             table,
             shape,
             alloc,
         } = self;
-        let ChargeSeat {
-            seat,
+        let FirstChargeSeat {
+            token,
             charges: _,
             uncharges: _,
-        } = seat;
-        let mut closed = table.close_with(seat);
+        } = first;
+        let mut closed = table.close_with(token);
         let usage = usage_of(alloc, &closed, shape.parents.len());
         let tree = closed.take(0);
         closed.free();

@@ -21,4 +21,4 @@ pub mod table;
 pub mod view;
 mod words;
 
-pub use table::{Charge, ChargeSeat};
+pub use table::{Charge, ChargeSeat, FirstChargeSeat};

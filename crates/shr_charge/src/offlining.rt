@@ -10,13 +10,13 @@ ghost use Rattle.shr_charge.specs.Answers.{KnowsTree, BeginTells, BeginLeaves, I
 ghost use Rattle.shr_charge.specs.Offlining.{opens};
 ghost use Rattle.shr_charge.specs.Rooms.{Decides, Settles, hand_by, hand_made};
 ghost use Rattle.shr_charge.specs.Searching.{AreMarkedGroups};
-ghost use Rattle.shr_charge.specs.Seat.{IsChargeSeat, uses_of, tree_of, standing_of};
+ghost use Rattle.shr_charge.specs.Seat.{IsTokenOf, tree_of};
 ghost use Rattle.shr_charge.specs.Steps.{with_load};
 ghost use Rattle.shr_charge.specs.Told.{Shows, IsWord, state_in, with_tree};
 
 use crate::answers::{BeginAnswer, DoneAnswer, GroupState, MakeAnswer};
 use crate::searching::{Marks, first_like};
-use crate::table::{Charge, ChargeSeat};
+use crate::table::{Charge, ChargeSeat, Token};
 use crate::words::WORDS_A_GROUP;
 use shr_base::journals::TreeEntry;
 use shr_base::log::Log;
@@ -86,21 +86,19 @@ impl Charge {
     }
 
     // Begins to take a group offline that isn't the root, with the room in hand.
-    fn begin_in(&self, seat: &mut ChargeSeat, room: &mut Log<TreeEntry>, group: u16) -> BeginAnswer
-        requires table { seat.old.seat.table_id ≡ self.now.table.shared.table_id }
-        requires here { seat.old.seat.me.0.standing.gone ≡ false }
-        requires hand { (tree_of seat.old).in_hand ≡ true }
-        requires journal { (tree_of seat.old).hand ≡ room.old.items }
+    fn begin_in(&self, token: &mut Token, room: &mut Log<TreeEntry>, group: u16) -> BeginAnswer
+        requires seat { IsTokenOf self.now token.old }
+        requires hand { token.old.me.0.tree.in_hand ≡ true }
+        requires journal { token.old.me.0.tree.hand ≡ room.old.items }
         requires group { group < length self.now.shape.parents.items }
         requires above { 0 < group }
         requires spare { opens (length self.now.shape.parents.items) room.old.items
             ≤ room.old.spare }
         requires short { length room.old.items ≤ 3 * length self.now.shape.parents.items }
-        ensures table { seat.new.seat.table_id ≡ seat.old.seat.table_id }
-        ensures view { seat.new.seat.me ≡ with_tree seat.old.seat.me
-            (hand_by group result (tree_of seat.old)) }
-        ensures charges { seat.new.charges ≡ seat.old.charges }
-        ensures uncharges { seat.new.uncharges ≡ seat.old.uncharges }
+        ensures view { token.new ≡ record token.old {
+          me = with_tree token.old.me
+              (hand_by group result token.old.me.0.tree);
+        } }
         ensures decides { Decides (hierarchy_of self.now.shape) group result room.old.items
             room.new.items }
         ensures spare { opens (length self.now.shape.parents.items) room.new.items
@@ -124,52 +122,24 @@ impl Charge {
             return BeginAnswer::Memory;
         }
         room.push(TreeEntry::Begin { group });
-        self.store_begin(seat, group, entry);
+        self.store_begin(token, group, entry);
         BeginAnswer::Begun { entry }
     }
 
-    /// Begins to take a group offline: stores its group word and appends its Begin, or tells why
-    /// not.
-    ///
-    /// It waits for the tree room, and takes memory for the journal. Linux:
-    /// `mem_cgroup_css_offline` in mm/memcontrol.c.
-    pub fn begin_offline<R: Wait>(&self, rt: &R, seat: &mut ChargeSeat, group: u16) -> BeginAnswer
-        requires group { group < length self.now.shape.parents.items }
-        requires seat { IsChargeSeat self.now seat.old }
-        ensures seat { IsChargeSeat self.now seat.new }
-        ensures tells { BeginTells (hierarchy_of self.now.shape) group result (tree_of seat.old)
-            (tree_of seat.new).known }
-        ensures view { BeginLeaves group result (tree_of seat.old) (tree_of seat.new) }
-        ensures knows { IfGiven result (KnowsTree (hierarchy_of self.now.shape) (tree_of seat.old)
-            (tree_of seat.new)) }
-        ensures uses { uses_of seat.new ≡ uses_of seat.old }
-        ensures standing { standing_of seat.new ≡ standing_of seat.old }
-    {
-        if group == 0 {
-            return BeginAnswer::Root;
-        }
-        let mut room = self.take_tree(rt, seat);
-        let answer = self.begin_in(seat, &mut room, group);
-        self.give_tree(seat, room);
-        answer
-    }
-
     // Makes a later group, with the room in hand.
-    fn make_in(&self, seat: &mut ChargeSeat, room: &mut Log<TreeEntry>, group: u16) -> MakeAnswer
-        requires table { seat.old.seat.table_id ≡ self.now.table.shared.table_id }
-        requires here { seat.old.seat.me.0.standing.gone ≡ false }
-        requires hand { (tree_of seat.old).in_hand ≡ true }
-        requires journal { (tree_of seat.old).hand ≡ room.old.items }
+    fn make_in(&self, token: &mut Token, room: &mut Log<TreeEntry>, group: u16) -> MakeAnswer
+        requires seat { IsTokenOf self.now token.old }
+        requires hand { token.old.me.0.tree.in_hand ≡ true }
+        requires journal { token.old.me.0.tree.hand ≡ room.old.items }
         requires group { group < length self.now.shape.parents.items }
         requires late { is_later self.now.shape.later.items group ≡ true }
         requires spare { opens (length self.now.shape.parents.items) room.old.items
             ≤ room.old.spare }
         requires short { length room.old.items ≤ 3 * length self.now.shape.parents.items }
-        ensures table { seat.new.seat.table_id ≡ seat.old.seat.table_id }
-        ensures view { seat.new.seat.me ≡ with_tree seat.old.seat.me
-            (hand_made group result (tree_of seat.old)) }
-        ensures charges { seat.new.charges ≡ seat.old.charges }
-        ensures uncharges { seat.new.uncharges ≡ seat.old.uncharges }
+        ensures view { token.new ≡ record token.old {
+          me = with_tree token.old.me
+              (hand_made group result token.old.me.0.tree);
+        } }
         ensures settles { Settles (hierarchy_of self.now.shape) group result room.old.items
             room.new.items }
         ensures spare { opens (length self.now.shape.parents.items) room.new.items
@@ -191,30 +161,52 @@ impl Charge {
             return MakeAnswer::Memory;
         }
         room.push(TreeEntry::Made { group });
-        self.store_made(seat, group);
+        self.store_made(token, group);
         MakeAnswer::Made { entry }
+    }
+}
+
+impl<'a> ChargeSeat<'a> {
+    /// Begins to take a group offline: stores its group word and appends its Begin, or tells why
+    /// not.
+    ///
+    /// It waits for the tree room, and takes memory for the journal. Linux:
+    /// `mem_cgroup_css_offline` in mm/memcontrol.c.
+    pub fn begin_offline<R: Wait>(&mut self, rt: &R, group: u16) -> BeginAnswer
+        requires group { group < length self.old.charge.shape.parents.items }
+        ensures tells { BeginTells (hierarchy_of self.old.charge.shape) group result (tree_of self.old)
+            (tree_of self.new).known }
+        ensures view { BeginLeaves group result (tree_of self.old) (tree_of self.new) }
+        ensures knows { IfGiven result (KnowsTree (hierarchy_of self.old.charge.shape) (tree_of self.old)
+            (tree_of self.new)) }
+        ensures rest { self.new ≡ record self.old { tree = tree_of self.new } }
+    {
+        if group == 0 {
+            return BeginAnswer::Root;
+        }
+        let mut room = self.charge.take_tree(rt, &mut self.token);
+        let answer = self.charge.begin_in(&mut self.token, &mut room, group);
+        self.charge.give_tree(&mut self.token, room);
+        answer
     }
 
     /// Makes a later group: stores its group word and appends its Made, or tells why not.
     ///
     /// It waits for the tree room, and takes memory for the journal. Linux: `cgroup_mkdir` in
     /// kernel/cgroup/cgroup.c, which refuses below a parent that is dying.
-    pub fn make_group<R: Wait>(&self, rt: &R, seat: &mut ChargeSeat, group: u16) -> MakeAnswer
-        requires group { group < length self.now.shape.parents.items }
-        requires late { is_later self.now.shape.later.items group ≡ true }
-        requires seat { IsChargeSeat self.now seat.old }
-        ensures seat { IsChargeSeat self.now seat.new }
-        ensures tells { MakeTells (hierarchy_of self.now.shape) group result (tree_of seat.old)
-            (tree_of seat.new).known }
-        ensures view { MakeLeaves group result (tree_of seat.old) (tree_of seat.new) }
-        ensures knows { KnowsTree (hierarchy_of self.now.shape) (tree_of seat.old)
-            (tree_of seat.new) }
-        ensures uses { uses_of seat.new ≡ uses_of seat.old }
-        ensures standing { standing_of seat.new ≡ standing_of seat.old }
+    pub fn make_group<R: Wait>(&mut self, rt: &R, group: u16) -> MakeAnswer
+        requires group { group < length self.old.charge.shape.parents.items }
+        requires late { is_later self.old.charge.shape.later.items group ≡ true }
+        ensures tells { MakeTells (hierarchy_of self.old.charge.shape) group result (tree_of self.old)
+            (tree_of self.new).known }
+        ensures view { MakeLeaves group result (tree_of self.old) (tree_of self.new) }
+        ensures knows { KnowsTree (hierarchy_of self.old.charge.shape) (tree_of self.old)
+            (tree_of self.new) }
+        ensures rest { self.new ≡ record self.old { tree = tree_of self.new } }
     {
-        let mut room = self.take_tree(rt, seat);
-        let answer = self.make_in(seat, &mut room, group);
-        self.give_tree(seat, room);
+        let mut room = self.charge.take_tree(rt, &mut self.token);
+        let answer = self.charge.make_in(&mut self.token, &mut room, group);
+        self.charge.give_tree(&mut self.token, room);
         answer
     }
 
@@ -224,27 +216,24 @@ impl Charge {
     ///
     /// Linux: `offline_css` in kernel/cgroup/cgroup.c, which clears `CSS_ONLINE` only here, after
     /// `mem_cgroup_css_offline`.
-    pub fn done_offline<R: Wait>(&self, rt: &R, seat: &mut ChargeSeat, group: u16) -> DoneAnswer
-        requires group { group < length self.now.shape.parents.items }
-        requires begun { IsSome (begin_of (tree_of seat.old).known group) }
-        requires seat { IsChargeSeat self.now seat.old }
-        ensures seat { IsChargeSeat self.now seat.new }
-        ensures tells { DoneTells (hierarchy_of self.now.shape) group result (tree_of seat.old)
-            (tree_of seat.new).known }
-        ensures view { DoneLeaves group result (tree_of seat.old) (tree_of seat.new) }
-        ensures knows { KnowsTree (hierarchy_of self.now.shape) (tree_of seat.old)
-            (tree_of seat.new) }
-        ensures uses { uses_of seat.new ≡ uses_of seat.old }
-        ensures standing { standing_of seat.new ≡ standing_of seat.old }
+    pub fn done_offline<R: Wait>(&mut self, rt: &R, group: u16) -> DoneAnswer
+        requires group { group < length self.old.charge.shape.parents.items }
+        requires begun { IsSome (begin_of (tree_of self.old).known group) }
+        ensures tells { DoneTells (hierarchy_of self.old.charge.shape) group result (tree_of self.old)
+            (tree_of self.new).known }
+        ensures view { DoneLeaves group result (tree_of self.old) (tree_of self.new) }
+        ensures knows { KnowsTree (hierarchy_of self.old.charge.shape) (tree_of self.old)
+            (tree_of self.new) }
+        ensures rest { self.new ≡ record self.old { tree = tree_of self.new } }
     {
-        let mut room = self.take_tree(rt, seat);
+        let mut room = self.charge.take_tree(rt, &mut self.token);
         if let Some(entry) = first_like(room.as_slice(), TreeEntry::Done { group }) {
-            self.give_tree(seat, room);
+            self.charge.give_tree(&mut self.token, room);
             return DoneAnswer::AlreadyDone { entry };
         }
         let entry = room.len() as u32;
         room.push(TreeEntry::Done { group });
-        self.give_done(seat, room, group);
+        self.charge.give_done(&mut self.token, room, group);
         DoneAnswer::Done { entry }
     }
 
@@ -252,15 +241,14 @@ impl Charge {
     ///
     /// It takes no memory and doesn't wait. Linux: `mem_cgroup_online` in
     /// include/linux/memcontrol.h.
-    pub fn state(&self, seat: &mut ChargeSeat, group: u16) -> GroupState
-        requires group { group < length self.now.shape.parents.items }
-        requires seat { IsChargeSeat self.now seat.old }
-        ensures seat { IsChargeSeat self.now seat.new }
-        ensures view { tree_of seat.new ≡ with_load (tree_of seat.old) group result }
-        ensures shows { Shows (hierarchy_of self.now.shape) (tree_of seat.old) group result }
-        ensures uses { uses_of seat.new ≡ uses_of seat.old }
-        ensures standing { standing_of seat.new ≡ standing_of seat.old }
+    pub fn state(&mut self, group: u16) -> GroupState
+        requires group { group < length self.old.charge.shape.parents.items }
+        ensures loaded { self.new ≡ record self.old {
+          tree = with_load (tree_of self.old) group result;
+        } }
+        ensures shows { Shows (hierarchy_of self.old.charge.shape) (tree_of self.old) group result }
     {
-        state_of(self.load_as::<Brand>(&mut seat.seat, WORDS_A_GROUP * group as usize + 2, group))
+        let at = WORDS_A_GROUP * group as usize + 2;
+        state_of(self.charge.load_as::<Brand>(&mut self.token, at, group))
     }
 }

@@ -2,13 +2,11 @@
 
 ghost use Rattle.std.specs.Prelude.{◌≡◌, ◌≤◌, ◌+◌, ◌*◌, length, replicate, IfOk};
 ghost use Rattle.shr_seats.specs.Shapes.{HasLimits};
-ghost use Rattle.shr_seats.specs.Standing.{at_first};
-ghost use Rattle.shr_charge.specs.Views.{own_uses, no_tree};
 ghost use Rattle.shr_charge.specs.Opening.{AreFirstGroupWords};
-ghost use Rattle.shr_charge.specs.Seat.{IsChargeSeat, uses_of, tree_of, standing_of};
+ghost use Rattle.shr_charge.specs.Seat.{IsFirstChargeOf, first_seated, opener_seated};
 
 use crate::offlining::NOT_MADE;
-use crate::table::{Charge, ChargeSeat};
+use crate::table::{Charge, ChargeSeat, FirstChargeSeat};
 use crate::words::WORDS_A_GROUP;
 use atomic_table::{Refused, Table};
 use shr_base::log::Log;
@@ -41,31 +39,49 @@ impl Charge {
     /// later, and its first seat. On `Memory` nothing is kept.
     ///
     /// Linux: `page_counter_init` in include/linux/page_counter.h for each group.
-    pub fn new(alloc: Global, shape: Shape) -> Result<(Charge, ChargeSeat), Memory>
+    pub fn new(alloc: Global, shape: Shape) -> Result<(Charge, FirstChargeSeat), Memory>
         requires shape { HasLimits shape }
         ensures shape { IfOk result (λ t. t.0.shape ≡ shape) }
-        ensures seat { IfOk result (λ t. IsChargeSeat t.0 t.1) }
-        ensures uses { IfOk result (λ t. uses_of t.1 ≡ own_uses) }
-        ensures tree { IfOk result (λ t. tree_of t.1 ≡ no_tree) }
-        ensures standing { IfOk result (λ t. standing_of t.1 ≡ at_first) }
+        ensures first { IfOk result (λ t. IsFirstChargeOf t.0 t.1) }
+        ensures opener { IfOk result (λ t. first_seated t.0 t.1 ≡ opener_seated t.0) }
     {
         let words = first_words(alloc, shape.later.as_slice())?;
         let mut rooms = Vec::new(alloc);
         rooms.push(Log::new(alloc))?;
         match Table::new(alloc, &words, rooms, &shape) {
-            Ok((table, seat)) => Ok((
+            Ok((table, token)) => Ok((
                 Charge {
                     table,
                     shape,
                     alloc,
                 },
-                ChargeSeat {
-                    seat,
+                FirstChargeSeat {
+                    token,
                     charges: 0,
                     uncharges: 0,
                 },
             )),
             Err(Refused { slots: _ }) => Err(Memory),
+        }
+    }
+}
+
+impl FirstChargeSeat {
+    /// The first seat at its table. Our own.
+    pub fn at<'a>(self, charge: &'a Charge) -> ChargeSeat<'a>
+        requires { IsFirstChargeOf charge.now self }
+        ensures { result ≡ first_seated charge.now self }
+    {
+        let FirstChargeSeat {
+            token,
+            charges,
+            uncharges,
+        } = self;
+        ChargeSeat {
+            charge,
+            token,
+            charges,
+            uncharges,
         }
     }
 }

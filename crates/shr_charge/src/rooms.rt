@@ -6,11 +6,11 @@ ghost use Rattle.shr_model.specs.TreeJournal.{MayBegin, MayBeDone, MayBeMade};
 ghost use Rattle.shr_seats.specs.Shapes.{hierarchy_of};
 ghost use Rattle.shr_charge.specs.Offlining.{IsHome};
 ghost use Rattle.shr_charge.specs.Rooms.{HoldsTreeRoom, Shown};
-ghost use Rattle.shr_charge.specs.Seat.{IsChargeSeat, tree_of};
+ghost use Rattle.shr_charge.specs.Seat.{IsTokenOf};
 ghost use Rattle.shr_charge.specs.Steps.{with_tree_given, with_begin, with_made, with_done};
-ghost use Rattle.shr_charge.specs.Told.{TakesTreeRoom, with_tree};
+ghost use Rattle.shr_charge.specs.Told.{TakesTreeRoom, with_tree, with_room_back};
 
-use crate::table::{Charge, ChargeSeat, TableSeat};
+use crate::table::{Charge, Token};
 use crate::words::WORDS_A_GROUP;
 use crossbeam_utils::Backoff;
 use shr_base::journals::TreeEntry;
@@ -20,31 +20,29 @@ use std::sync::Wait;
 
 impl Charge {
     // One compare and exchange of the lock word.
-    fn try_take(&self, seat: &mut TableSeat) -> bool
-        requires table { seat.old.table_id ≡ self.now.table.shared.table_id }
-        requires here { seat.old.me.0.standing.gone ≡ false }
-        requires bare { seat.old.me.1 ≡ [] }
-        requires out { seat.old.me.0.tree.in_hand ≡ false }
-        ensures table { seat.new.table_id ≡ seat.old.table_id }
-        ensures taken { MatchBool result (TakesTreeRoom (hierarchy_of self.now.shape) seat.old.me
-            seat.new.me) (seat.new.me ≡ seat.old.me) }
+    fn try_take(&self, token: &mut Token) -> bool
+        requires seat { IsTokenOf self.now token.old }
+        requires bare { token.old.me.1 ≡ [] }
+        requires out { token.old.me.0.tree.in_hand ≡ false }
+        ensures same { token.new ≡ record token.old { me = token.new.me } }
+        ensures taken { MatchBool result (TakesTreeRoom (hierarchy_of self.now.shape) token.old.me
+            token.new.me) (token.new.me ≡ token.old.me) }
     {
-        self.lock_as::<Brand>(seat) == 0
+        self.lock_as::<Brand>(token) == 0
     }
 
     /// Waits for the room, and takes its journal out of it. Our own.
-    pub(crate) fn take_tree<R: Wait>(&self, rt: &R, seat: &mut ChargeSeat) -> Log<TreeEntry>
-        requires seat { IsChargeSeat self.now seat.old }
-        ensures room { HoldsTreeRoom self.now seat.old seat.new result.items }
-        ensures shown { Shown (hierarchy_of self.now.shape) (tree_of seat.old) result }
+    pub(crate) fn take_tree<R: Wait>(&self, rt: &R, token: &mut Token) -> Log<TreeEntry>
+        requires seat { IsTokenOf self.now token.old }
+        requires bare { token.old.me.1 ≡ [] }
+        requires out { token.old.me.0.tree.in_hand ≡ false }
+        ensures room { HoldsTreeRoom token.old token.new result.items }
+        ensures shown { Shown (hierarchy_of self.now.shape) token.old.me.0.tree result }
     {
         let backoff = Backoff::new();
         for _turn in rt.forever() {
-            if self.try_take(&mut seat.seat) {
-                return self
-                    .table
-                    .shared
-                    .exchange(&mut seat.seat, 0, Log::new(self.alloc));
+            if self.try_take(token) {
+                return self.table.shared.exchange(token, 0, Log::new(self.alloc));
             }
             backoff.snooze();
         }
@@ -52,60 +50,52 @@ impl Charge {
     }
 
     /// Gives the room back with its journal. Our own.
-    pub(crate) fn give_tree(&self, seat: &mut ChargeSeat, room: Log<TreeEntry>)
-        requires table { seat.old.seat.table_id ≡ self.now.table.shared.table_id }
-        requires here { seat.old.seat.me.0.standing.gone ≡ false }
-        requires hand { (tree_of seat.old).in_hand ≡ true }
-        requires slot { (left : _) × (seat.old.seat.me.1 ≡ (0, left) ∷ []) }
-        requires home { IsHome (length self.now.shape.parents.items) (tree_of seat.old).hand room }
-        ensures table { seat.new.seat.table_id ≡ seat.old.seat.table_id }
-        ensures view { seat.new.seat.me.0 ≡ record seat.old.seat.me.0
-            { tree = with_tree_given (tree_of seat.old) } }
-        ensures bare { seat.new.seat.me.1 ≡ [] }
-        ensures charges { seat.new.charges ≡ seat.old.charges }
-        ensures uncharges { seat.new.uncharges ≡ seat.old.uncharges }
+    pub(crate) fn give_tree(&self, token: &mut Token, room: Log<TreeEntry>)
+        requires seat { IsTokenOf self.now token.old }
+        requires hand { token.old.me.0.tree.in_hand ≡ true }
+        requires slot { (left : _) × (token.old.me.1 ≡ (0, left) ∷ []) }
+        requires home { IsHome (length self.now.shape.parents.items) token.old.me.0.tree.hand room }
+        ensures given { token.new ≡ record token.old {
+          me = with_room_back token.old.me
+              (with_tree_given token.old.me.0.tree);
+        } }
     {
-        self.table.shared.exchange(&mut seat.seat, 0, room);
-        self.store_as::<Brand>(&mut seat.seat, 0, 0, 0);
+        self.table.shared.exchange(token, 0, room);
+        self.store_as::<Brand>(token, 0, 0, 0);
     }
 
     /// Gives the room back with its journal, which has the Done of a group more. Our own.
-    pub(crate) fn give_done(&self, seat: &mut ChargeSeat, room: Log<TreeEntry>, group: u16)
-        requires table { seat.old.seat.table_id ≡ self.now.table.shared.table_id }
-        requires here { seat.old.seat.me.0.standing.gone ≡ false }
-        requires hand { (tree_of seat.old).in_hand ≡ true }
-        requires slot { (left : _) × (seat.old.seat.me.1 ≡ (0, left) ∷ []) }
+    pub(crate) fn give_done(&self, token: &mut Token, room: Log<TreeEntry>, group: u16)
+        requires seat { IsTokenOf self.now token.old }
+        requires hand { token.old.me.0.tree.in_hand ≡ true }
+        requires slot { (left : _) × (token.old.me.1 ≡ (0, left) ∷ []) }
         requires group { group < length self.now.shape.parents.items }
-        requires may { MayBeDone (tree_of seat.old).hand group }
-        requires home { IsHome (length self.now.shape.parents.items) ((tree_of seat.old).hand
+        requires may { MayBeDone token.old.me.0.tree.hand group }
+        requires home { IsHome (length self.now.shape.parents.items) (token.old.me.0.tree.hand
             ++ DoneEntry group ∷ []) room }
-        ensures table { seat.new.seat.table_id ≡ seat.old.seat.table_id }
-        ensures view { seat.new.seat.me.0 ≡ record seat.old.seat.me.0
-            { tree = with_done (tree_of seat.old) group } }
-        ensures bare { seat.new.seat.me.1 ≡ [] }
-        ensures charges { seat.new.charges ≡ seat.old.charges }
-        ensures uncharges { seat.new.uncharges ≡ seat.old.uncharges }
+        ensures given { token.new ≡ record token.old {
+          me = with_room_back token.old.me
+              (with_done token.old.me.0.tree group);
+        } }
     {
-        self.table.shared.exchange(&mut seat.seat, 0, room);
-        self.store_as::<Brand>(&mut seat.seat, 0, 0, group);
+        self.table.shared.exchange(token, 0, room);
+        self.store_as::<Brand>(token, 0, 0, group);
     }
 
     /// Stores the group word of a group that begins to go offline by the entry with this number.
     /// Our own.
-    pub(crate) fn store_begin(&self, seat: &mut ChargeSeat, group: u16, entry: u32)
-        requires table { seat.old.seat.table_id ≡ self.now.table.shared.table_id }
-        requires here { seat.old.seat.me.0.standing.gone ≡ false }
-        requires hand { (tree_of seat.old).in_hand ≡ true }
-        requires may { MayBegin (hierarchy_of self.now.shape) (tree_of seat.old).hand group }
-        requires entry { entry ≡ length (tree_of seat.old).hand }
-        ensures table { seat.new.seat.table_id ≡ seat.old.seat.table_id }
-        ensures view { seat.new.seat.me ≡ with_tree seat.old.seat.me (with_begin (tree_of seat.old)
-            group) }
-        ensures charges { seat.new.charges ≡ seat.old.charges }
-        ensures uncharges { seat.new.uncharges ≡ seat.old.uncharges }
+    pub(crate) fn store_begin(&self, token: &mut Token, group: u16, entry: u32)
+        requires seat { IsTokenOf self.now token.old }
+        requires hand { token.old.me.0.tree.in_hand ≡ true }
+        requires may { MayBegin (hierarchy_of self.now.shape) token.old.me.0.tree.hand group }
+        requires entry { entry ≡ length token.old.me.0.tree.hand }
+        ensures begun { token.new ≡ record token.old {
+          me = with_tree token.old.me
+              (with_begin token.old.me.0.tree group);
+        } }
     {
         self.store_as::<Brand>(
-            &mut seat.seat,
+            token,
             WORDS_A_GROUP * group as usize + 2,
             entry as u64 + 1,
             group,
@@ -113,17 +103,15 @@ impl Charge {
     }
 
     /// Stores 0 in the group word of a later group, which makes it. Our own.
-    pub(crate) fn store_made(&self, seat: &mut ChargeSeat, group: u16)
-        requires table { seat.old.seat.table_id ≡ self.now.table.shared.table_id }
-        requires here { seat.old.seat.me.0.standing.gone ≡ false }
-        requires hand { (tree_of seat.old).in_hand ≡ true }
-        requires may { MayBeMade (hierarchy_of self.now.shape) (tree_of seat.old).hand group }
-        ensures table { seat.new.seat.table_id ≡ seat.old.seat.table_id }
-        ensures view { seat.new.seat.me ≡ with_tree seat.old.seat.me (with_made (tree_of seat.old)
-            group) }
-        ensures charges { seat.new.charges ≡ seat.old.charges }
-        ensures uncharges { seat.new.uncharges ≡ seat.old.uncharges }
+    pub(crate) fn store_made(&self, token: &mut Token, group: u16)
+        requires seat { IsTokenOf self.now token.old }
+        requires hand { token.old.me.0.tree.in_hand ≡ true }
+        requires may { MayBeMade (hierarchy_of self.now.shape) token.old.me.0.tree.hand group }
+        ensures made { token.new ≡ record token.old {
+          me = with_tree token.old.me
+              (with_made token.old.me.0.tree group);
+        } }
     {
-        self.store_as::<Brand>(&mut seat.seat, WORDS_A_GROUP * group as usize + 2, 0, group);
+        self.store_as::<Brand>(token, WORDS_A_GROUP * group as usize + 2, 0, group);
     }
 }

@@ -11,16 +11,45 @@ use shr_base::journals::TreeEntry;
 use shr_base::log::Log;
 use shr_seats::shape::Shape;
 use std::alloc::Global;
+use std::marker::Model;
 
-/// The table's own seat. Our own.
-pub(crate) type TableSeat = Seat<Log<TreeEntry>, View>;
+/// What the table knows of a seat. Our own.
+pub(crate) type Token = Seat<Log<TreeEntry>, View>;
 
-/// A thread's seat, which counts its calls. Our own.
+/// A thread's seat at its table, which counts its calls. Our own.
 #[derive(Drop)]
-pub struct ChargeSeat {
-    pub(crate) seat: TableSeat,
+pub struct ChargeSeat<'a> {
+    pub(crate) charge: &'a Charge,
+    pub(crate) token: Token,
     // How often it was called to charge and to uncharge. The counts stand still at their last
     // value.
+    pub(crate) charges: u32,
+    pub(crate) uncharges: u32,
+}
+
+impl<'a> Model for ChargeSeat<'a> {
+    ghost use Rattle.shr_charge.specs.Seat.{ChargeSeated, IsChargeSeat, seated_at};
+
+    ghost Value = { ChargeSeated };
+
+    ghost view = { λ s. seated_at s.charge.now s.token };
+
+    ghost invariant = { λ s. IsChargeSeat s.charge.now s.token s.charges s.uncharges };
+}
+
+impl<'a> ChargeSeat<'a> {
+    /// The table that the seat is of. Our own.
+    pub fn table(&self) -> &'a Charge
+        ensures { result.now ≡ self.now.charge }
+    {
+        self.charge
+    }
+}
+
+/// The first seat while it is not at its table: before the threads begin, and at the end. Our own.
+#[derive(Drop)]
+pub struct FirstChargeSeat {
+    pub(crate) token: Token,
     pub(crate) charges: u32,
     pub(crate) uncharges: u32,
 }

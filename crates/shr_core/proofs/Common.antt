@@ -53,7 +53,8 @@ pub use Rattle.shr_core.specs.Order.{AreEvents, AreInUse, AreOrdered, AreOwn, Ho
 pub use Rattle.shr_core.specs.Parts.{Claims, RoomContent, Counted, Dated, Event, Hand, Holding, Known, Loaded, Made, Mapped, Marks, Traces, Tried, Turn, Turns, cleared, counted, loaded, looked, made, mapped, no_claims, no_marks, no_rooms, no_traces, no_turns, put_back, raised, turned}
 pub use Rattle.shr_core.specs.Ranks.{EntryTells, Measure, EventTells, entries, lookups, turns, value}
 pub use Rattle.shr_core.specs.Rule.{AreBorn, AreCounts, AreDated, AreInHand, AreLists, AreLookups, AreLookupsOf, AreMarks, AreOwned, AreRooms, AreRoomsOf, AreTraces, AreTurns, Fits, HasLastEnd, HasOnlyIds, HasOwnEnd, Histories, IsDated, IsHalfSpliced, IsHeld, IsInside, IsKnown, IsLoaded, IsMade, IsMapped, IsOwner, IsRoom, IsSeen, IsShown, IsTried, IsTurn, Journals, IsRoomAtHome, Rules, Sound, claims_of, slot_content, family_of, half_of, has_room, hit, hit_attempt, hit_turn, holding_of, ends_registration, is_room, is_some_of, items_now, list_content, mark_of, marks_of, met_now, only_some, opener, phases, spent, view_standing, traces_of, turns_of}
-pub use Rattle.shr_core.specs.Seats.{HasFirst, IsHolding, IsMeeting, IsMet, IsOf, IsPlaceOfShape, MayTake, numbers_of, room_numbers, room_rows, slot_numbers, view_of}
+pub use Rattle.shr_core.specs.Seats.{HasFirst, IsHolding, IsMeeting, IsMet, IsPlaceOfShape, MayTake, numbers_of, room_numbers, room_rows, slot_numbers, view_of}
+pub use Rattle.shr_core.specs.Seating.{IsOf}
 pub use Rattle.shr_core.specs.Slots.{Slot}
 pub use Rattle.shr_core.specs.Steps.{IsAtRest, IsBacked, IsLater, IsTaken, IsUnspliced, MayPhase, MayStore, Sat, claimed, content_in, dated_now, dating_of, drained_after, half_after, in_hand, is_drained, is_empty, with_joined, last_entry, met_in, moved_in_hand, noted, owed_after, put_events, split_off, turn_at, undrained, with_clear, with_content, with_count, with_drained, with_given, with_given_up, with_leave, with_lookup, with_map, with_one_split, with_phase, with_pool_given, with_put, with_set, with_stored, with_taken, with_try, with_word, without_id, without_room}
 pub use Rattle.shr_core.specs.Tells.{IsBusy, IsInHand, PlaceTold, PoolTold, phase_told, place_content, raise, took, turns_content, worded}

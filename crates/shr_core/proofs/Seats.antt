@@ -193,8 +193,8 @@ turn_join ids decls pool ts id other v u at apart them o = let b : Turns = recor
 }
 
 -- the rule holds after another seat at rest is joined into the first
-pub joins : (key : Setting) (id : ℕ) (v : View) (other : ℕ) (u : View) → v.standing.first ≡ true → v.standing.gone ≡ false → u.standing.gone ≡ false → IsAtRest u → Joins (Sound key) id v other u (with_joined v u) spent
-joins key id v other u is present here rest s o me apart them = let q = o.rules in let w : View = with_joined v u in
+pub joins : (key : Setting) (id : ℕ) (v : View) (other : ℕ) (u : View) → v.standing.first ≡ true → v.standing.gone ≡ false → u.standing.gone ≡ false → u.claims.may ≡ None → u.claims.probe ≡ None → IsAtRest u → Joins (Sound key) id v other u (with_joined v u) spent
+joins key id v other u is present here may probe rest s o me apart them = let q = o.rules in let w : View = with_joined v u in
     let there : get_elem? s.views other ≡ some u = sym (set_else s.views id other w apart) ∙ them in record {
       now = o.now;
       after = o.after;
@@ -204,7 +204,7 @@ joins key id v other u is present here rest s o me apart them = let q = o.rules 
       deep = o.deep;
       emptied = Each-join (λ (x : View). x.standing.gone ≡ true → x ≡ spent) s.views id other w spent (λ t. absurd (false_true (sym present ∙ t))) (λ _. refl) o.emptied;
       ended = Each-join (HasOwnEnd o.pool) s.views id other w spent (λ i e. unregistering.more i o.pool v.turns.made u.turns.made (o.ended id v me i e)) (λ i e. absurd (none-some i e)) o.ended;
-      ordered = ordering.joins key.shape.ids key.first_lookup o.now o.pool (bits_in (sizes_of key.shape) s.words) (looks_in s.words) s.views id v me present o.ordered other u apart there here (ordering.no_refs u.claims.held u.claims.probe rest.held rest.probe);
+      ordered = ordering.joins key.shape.ids key.first_lookup o.now o.pool (bits_in (sizes_of key.shape) s.words) (looks_in s.words) s.views id v me present o.ordered other u apart there here (ordering.no_refs u.claims.held u.claims.probe rest.held probe);
       rules = record {
         counted = q.counted;
         roomed = joined_list holding_of (AreRoomsOf key o.now o.after o.pool (locks_in (sizes_of key.shape) s.words) s.homes) s.views id other w spent
@@ -215,7 +215,7 @@ joins key id v other u is present here rest s o me apart them = let q = o.rules 
         marked = joined_list marks_of (AreMarks key.shape.ids (counts_in (sizes_of key.shape) s.words) (bits_in (sizes_of key.shape) s.words) (phases o.pool)) s.views id other w spent
             (mark_join key.shape.ids (counts_in (sizes_of key.shape) s.words) (bits_in (sizes_of key.shape) s.words) (phases o.pool) (map marks_of s.views) id other v.marks u.marks (at_map marks_of s.views id v me) apart (at_map marks_of s.views other u there) rest.owed q.marked);
         looked = joined_list claims_of (AreLookupsOf key (looks_in s.words) o.pool) s.views id other w spent
-            (claim_join key.shape.ids key.first_lookup (looks_in s.words) o.pool (map claims_of s.views) id other v.claims u.claims (at_map claims_of s.views id v me) apart (at_map claims_of s.views other u there) rest.may rest.held rest.probe q.looked);
+            (claim_join key.shape.ids key.first_lookup (looks_in s.words) o.pool (map claims_of s.views) id other v.claims u.claims (at_map claims_of s.views id v me) apart (at_map claims_of s.views other u there) may rest.held probe q.looked);
         owned = joined_list claims_of (AreOwned key.shape o.now o.after o.pool) s.views id other w spent
             (own_join key.shape o.now o.after o.pool (map claims_of s.views) id other v.claims u.claims w.claims (at_map claims_of s.views id v me) apart (at_map claims_of s.views other u there) refl refl refl refl rest.owner rest.held q.owned);
         turned = joined_list turns_of (AreTurns key.shape.ids key.shape.decls o.pool) s.views id other w spent (turn_join key.shape.ids key.shape.decls o.pool (map turns_of s.views) id other v.turns u.turns (at_map turns_of s.views id v me) apart (at_map turns_of s.views other u there) q.turned);

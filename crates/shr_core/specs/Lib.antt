@@ -8,6 +8,7 @@ pub mod Rule
 pub mod Steps
 pub mod Tells
 pub mod Seats
+pub mod Seating
 pub mod Answers
 pub mod Again
 pub mod Opening

@@ -1,5 +1,5 @@
 -- What contracts see of a seat.
-use Rattle.std.specs.Prelude.{◌≡◌, ◌⊎◌, ℕ, ◌/◌, ◌%◌, ◌<◌, List, [], ◌∷◌, map, length, Option, Some, None, false, true}
+use Rattle.std.specs.Prelude.{◌≡◌, ◌⊎◌, ℕ, ◌/◌, ◌%◌, ◌<◌, List, [], ◌∷◌, map, length, Option, Some, None, true}
 use Rattle.atomic_table.specs.Table.{rest}
 use Rattle.shr_model.specs.Places.{place_number}
 use Rattle.shr_model.specs.Groups.{is_child}
@@ -8,7 +8,7 @@ use Rattle.shr_base.specs.declared.journals.PoolEntry.{PoolEntry}
 use Rattle.shr_base.specs.declared.places.Place.{Place}
 use Rattle.shr_seats.specs.Rows as rows
 use Rattle.shr_core.specs.declared.table.Core.{Core}
-use Rattle.shr_core.specs.declared.seat.Seat.{Seat}
+use Rattle.shr_core.specs.declared.seat.FirstSeat.{FirstSeat}
 use Rattle.shr_core.specs.declared.seat.Met.{Met}
 use Rattle.shr_core.specs.declared.seat.InHand.{InHand}
 use Rattle.shr_core.specs.declared.seat.InHand.TheVariants.{Nothing, One, Two}
@@ -19,9 +19,18 @@ use Rattle.shr_core.specs.Parts.{Hand, Claims}
 use Rattle.shr_core.specs.Layout.{group_of, row_in}
 use Rattle.shr_seats.specs.Shapes.{sizes_of}
 
+-- a seat at its core: the core, and the seat's view
+pub record Seated : Type 0 where
+  pub core : Core
+  pub view : View
+
 -- a seat's view: what it is known to have done and seen
-abbrev pub view_of : Seat → View
-view_of seat = seat.token.me.0
+abbrev pub view_of : Seated → View
+view_of seat = seat.view
+
+-- the view of the first seat while it isn't at its core
+abbrev pub first_view : FirstSeat → View
+first_view first = first.token.me.0
 
 -- the sizes of a core
 abbrev pub shape_of : Core → Shape
@@ -67,18 +76,6 @@ pub record IsMet (shape : Shape) (known : List PoolEntry) (met : Met) : Type 0 w
 abbrev pub IsMeeting : Shape → List PoolEntry → Option Met → Type 0
 IsMeeting shape known None = Unit {0}
 IsMeeting shape known (Some met) = IsMet shape known met
-
--- A seat is of this core, was not joined away, and what it keeps at run time agrees with its view.
--- Between calls it probes no id and is to look up none.
-pub record IsOf (core : Core) (seat : Seat) : Type 0 where
-  pub table : seat.token.table_id ≡ core.table.shared.table_id
-  pub present : (view_of seat).standing.gone ≡ false
-  pub holding : IsHolding core.setting.shape.ids seat.held (view_of seat).claims
-  pub may : (view_of seat).claims.may ≡ None
-  pub probe : (view_of seat).claims.probe ≡ None
-  pub rooms : numbers_of seat.rooms ≡ room_numbers (view_of seat)
-  pub slots : slot_numbers seat.token.me.1 ≡ room_rows core.setting.shape (view_of seat)
-  pub met : IsMeeting core.setting.shape (view_of seat).turns.known seat.met
 
 -- a seat has no room in hand, or only that of a child of the place's group at the same id and node
 abbrev pub MayTake : Shape → View → Place → Type 0

@@ -348,11 +348,9 @@ with_joined v u = record v {
   did = v.did ++ u.did;
 }
 
--- the seat holds, probes, owes, owns and has in hand nothing
+-- the seat holds, owes, owns and has in hand nothing
 pub record IsAtRest (v : View) : Type 0 where
   pub rooms : v.holding.hands ≡ []
   pub owed : v.marks.owed ≡ []
-  pub may : v.claims.may ≡ None
   pub held : v.claims.held ≡ None
-  pub probe : v.claims.probe ≡ None
   pub owner : v.claims.owner ≡ None

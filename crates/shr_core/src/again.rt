@@ -3,8 +3,9 @@ ghost use Rattle.std.specs.Prelude.{◌≡◌, ◌%◌, ◌<◌, false, None, If
 ghost use Rattle.shr_model.specs.Pool.{phase_of};
 ghost use Rattle.shr_core.specs.Lookup.{word_in, lookups_of, phase_in, last_lookups};
 ghost use Rattle.shr_core.specs.Steps.{with_word};
-ghost use Rattle.shr_core.specs.Moves.{IsSameSeat};
-ghost use Rattle.shr_core.specs.Seats.{IsOf, IsMet, view_of, shape_of};
+ghost use Rattle.shr_core.specs.Moves.{IsHere, IsSameSeat};
+ghost use Rattle.shr_core.specs.Tells.{IsOfPool};
+ghost use Rattle.shr_core.specs.Seats.{IsMet, view_of, shape_of};
 ghost use Rattle.shr_core.specs.Again.{looked_again, DrawsAgain, FindsAgain, KnowsNone};
 
 use crate::lookups::{LAST_LOOKUPS, unpack};
@@ -30,26 +31,26 @@ pub struct Again {
 const TRIES: usize = 8;
 
 impl Core {
-    // One load of an id's lookup word.
-    fn peek(&self, token: &mut Token<Slot, View>, id: u16) -> u64
-        requires table { (token.old.table_id ≡ self.now.table.shared.table_id)
-            × (id < (shape_of self.now).ids) }
-        requires view { token.old.me.0.standing.gone ≡ false }
-        ensures id { IsSameSeat token.old token.new }
-        ensures loaded { token.new.me ≡ (
-          with_word token.old.me.0 id (word_in result),
-          token.old.me.1,
-        ) }
+    /// One load of an id's lookup word. Our own.
+    pub(crate) fn peek(&self, token: &mut Token<Slot, View>, id: u16) -> u64
+        requires seat { IsHere self.now token.old }
+        requires id { id < (shape_of self.now).ids }
+        ensures loaded { token.new ≡ record token.old {
+          me = (
+            with_word token.old.me.0 id (word_in result),
+            token.old.me.1,
+          );
+        } }
+        ensures of_pool { IsOfPool self.now.setting token.old.me.0 id (word_in result) }
     {
         self.load_as::<Brand>(token, lookup_word(id), id as usize)
     }
 
     // One compare and exchange, which draws a number where it finds the word that is wanted.
     fn draw_again(&self, token: &mut Token<Slot, View>, id: u16, wanted: u64) -> u64
-        requires table { (token.old.table_id ≡ self.now.table.shared.table_id)
-            × (id < (shape_of self.now).ids) }
-        requires view { (token.old.me.0.standing.gone ≡ false)
-            × (token.old.me.0.claims.may ≡ None) × (token.old.me.0.claims.held ≡ None)
+        requires seat { IsHere self.now token.old }
+        requires id { id < (shape_of self.now).ids }
+        requires view { (token.old.me.0.claims.may ≡ None) × (token.old.me.0.claims.held ≡ None)
             × (token.old.me.0.claims.probe ≡ None) }
         requires left { lookups_of wanted < last_lookups }
         requires phase { (phase_in wanted ≡ phase_of id token.old.me.0.turns.known)
@@ -63,9 +64,8 @@ impl Core {
 
     // Some of these, the first of which wants a word that was loaded. The answer is the number.
     fn draw_some(&self, token: &mut Token<Slot, View>, met: Met, first: u64) -> Option<u32>
-        requires table { token.old.table_id ≡ self.now.table.shared.table_id }
-        requires view { (token.old.me.0.standing.gone ≡ false)
-            × (token.old.me.0.claims.may ≡ None) × (token.old.me.0.claims.held ≡ None)
+        requires seat { IsHere self.now token.old }
+        requires view { (token.old.me.0.claims.may ≡ None) × (token.old.me.0.claims.held ≡ None)
             × (token.old.me.0.claims.probe ≡ None) }
         requires met { IsMet (shape_of self.now) token.old.me.0.turns.known met }
         ensures id { IsSameSeat token.old token.new }
@@ -88,32 +88,33 @@ impl Core {
         }
         None
     }
+}
 
+impl<'a> Seat<'a> {
     /// Looks up the id that the seat met last, if that was for this declaration, and takes a
     /// reference if the id is still in the registration that the seat knows. The seat holds no id
     /// before. `None` says nothing of the declaration: another one was met last, or the id's phase
     /// isn't what it was, or its numbers are used up, or other seats changed its word each time.
     ///
     /// Linux: `shrinker_try_get` in `shrink_slab_memcg` of mm/shrinker.c.
-    pub fn lookup_again(&self, seat: &mut Seat, decl: u8) -> Option<Again>
-        requires seat { IsOf self.now seat.old }
-        requires free { (view_of seat.old).claims.held ≡ None }
-        ensures seat { IsOf self.now seat.new }
-        ensures unknown { result ≡ None → KnowsNone (view_of seat.old) (view_of seat.new) }
-        ensures found { IfSome result (λ again. FindsAgain (shape_of self.now)
-            (view_of seat.old) decl again (view_of seat.new)) }
+    pub fn lookup_again(&mut self, decl: u8) -> Option<Again>
+        requires free { (view_of self.old).claims.held ≡ None }
+        ensures unknown { result ≡ None → KnowsNone (view_of self.old) (view_of self.new) }
+        ensures found { IfSome result (λ again. FindsAgain (shape_of self.old.core)
+            (view_of self.old) decl again (view_of self.new)) }
+        ensures table { self.new.core ≡ self.old.core }
     {
-        let Some(met) = seat.met else {
+        let Some(met) = self.met else {
             return None;
         };
         if met.decl != decl {
             return None;
         }
-        let first = self.peek(&mut seat.token, met.id);
-        let Some(number) = self.draw_some(&mut seat.token, met, first) else {
+        let first = self.core.peek(&mut self.token, met.id);
+        let Some(number) = self.core.draw_some(&mut self.token, met, first) else {
             return None;
         };
-        seat.held = Some(met.id);
+        self.held = Some(met.id);
         Some(Again {
             id: met.id,
             number,
@@ -122,12 +123,10 @@ impl Core {
     }
 
     /// Keeps a registration that was met, by all that the seat knows of the pool's journal. Our own.
-    pub fn keep(&self, seat: &mut Seat, met: Met)
-        requires seat { IsOf self.now seat.old }
-        requires met { IsMet (shape_of self.now) (view_of seat.old).turns.known met }
-        ensures seat { IsOf self.now seat.new }
-        ensures same { view_of seat.new ≡ view_of seat.old }
+    pub fn keep(&mut self, met: Met)
+        requires met { IsMet (shape_of self.old.core) (view_of self.old).turns.known met }
+        ensures same { self.new ≡ self.old }
     {
-        seat.met = Some(met);
+        self.met = Some(met);
     }
 }

@@ -1,11 +1,11 @@
 //! Count words and bit words.
-ghost use Rattle.std.specs.Prelude.{◌≡◌, ◌/◌, ◌*◌, ◌^◌, ◌<◌, MatchBool, true, Some};
+ghost use Rattle.std.specs.Prelude.{◌≡◌, ◌/◌, ◌*◌, ◌^◌, ◌<◌, MatchBool};
 ghost use Rattle.shr_model.specs.Places.{place_number};
 ghost use Rattle.shr_seats.specs.Rows.{row_count};
 ghost use Rattle.shr_core.specs.Layout.{map_number, row_in};
 ghost use Rattle.shr_seats.specs.Shapes.{sizes_of, groups_in};
 ghost use Rattle.shr_core.specs.Steps.{with_count, IsCounted, with_drained, with_map, IsOfIds, with_set, with_clear};
-ghost use Rattle.shr_core.specs.Seats.{IsOf, IsPlaceOfShape, view_of, shape_of};
+ghost use Rattle.shr_core.specs.Seats.{IsPlaceOfShape, view_of, shape_of};
 
 use crate::seat::Seat;
 use crate::table::Core;
@@ -52,46 +52,46 @@ impl Core {
     {
         self.setting.shape.sizes().row(place)
     }
+}
 
+impl<'a> Seat<'a> {
     /// One load of the count word.
     ///
     /// Linux: `list_lru_count_one` in mm/list_lru.c, which reads `nr_items` without the lock.
-    pub fn count(&self, seat: &mut Seat, place: Place) -> Seen
-        requires seat { IsOf self.now seat.old }
-        requires place { IsPlaceOfShape (shape_of self.now) place }
-        ensures seat { IsOf self.now seat.new }
-        ensures loaded { view_of seat.new ≡ with_count (view_of seat.old) (place_number place)
-            result.len result.version }
-        ensures counted { IsCounted (shape_of self.now) (view_of seat.old) (place_number place)
+    pub fn count(&mut self, place: Place) -> Seen
+        requires place { IsPlaceOfShape (shape_of self.old.core) place }
+        ensures loaded { self.new ≡ record self.old {
+          view = with_count (view_of self.old) (place_number place)
+              result.len result.version;
+        } }
+        ensures counted { IsCounted (shape_of self.old.core) (view_of self.old) (place_number place)
             result.len result.version }
     {
         let number = number_of(place);
-        let word = count_word(self.row(place));
-        let word = self.load_as::<Brand>(&mut seat.token, word, number);
+        let word = count_word(self.core.row(place));
+        let word = self.core.load_as::<Brand>(&mut self.token, word, number);
         Seen {
             len: (word % ONE_VERSION) as u32,
             version: (word / ONE_VERSION) as u32,
         }
     }
 
-    /// Whether one load of the count word shows an empty list of the id that the seat owns, while
-    /// no seat holds it. Once the lists of all higher groups are empty nobody fills this one any
-    /// more, and the node's drain mark moves over it. Nothing else is noted.
+    /// Whether one load of the count word shows an empty list. Where the seat owns the id, no seat
+    /// holds it and the lists of all higher groups are empty, nobody fills this one any more, and the
+    /// node's drain mark moves over it. Nothing else is noted.
     ///
     /// Linux: `list_lru_count_one` in mm/list_lru.c, which reads `nr_items` without the lock. The
     /// mark is our own.
-    pub fn finds_empty(&self, seat: &mut Seat, place: Place) -> bool
-        requires seat { IsOf self.now seat.old }
-        requires place { IsPlaceOfShape (shape_of self.now) place }
-        requires owns { (view_of seat.old).claims.owner ≡ Some place.id }
-        requires quiet { (view_of seat.old).claims.quiet ≡ true }
-        ensures seat { IsOf self.now seat.new }
-        ensures emptied { MatchBool result (view_of seat.new ≡ with_drained (view_of seat.old)
-            (place_number place)) (view_of seat.new ≡ view_of seat.old) }
+    pub fn finds_empty(&mut self, place: Place) -> bool
+        requires place { IsPlaceOfShape (shape_of self.old.core) place }
+        ensures emptied { MatchBool result (self.new ≡ record self.old {
+          view = with_drained
+              (view_of self.old) (place_number place);
+        }) (self.new ≡ self.old) }
     {
         let number = number_of(place);
-        let word = count_word(self.row(place));
-        let word = self.load_as::<Brand>(&mut seat.token, word, number);
+        let word = count_word(self.core.row(place));
+        let word = self.core.load_as::<Brand>(&mut self.token, word, number);
         word % ONE_VERSION == 0
     }
 
@@ -100,55 +100,53 @@ impl Core {
     ///
     /// Linux: `map` of `struct shrinker_info_unit` in include/linux/shrinker.h. `shrink_slab_memcg`
     /// reads it anew at every bit.
-    pub fn map(&self, seat: &mut Seat, node: u8, group: u16, unit: u8) -> u64
-        requires seat { IsOf self.now seat.old }
-        requires place { (node < (shape_of self.now).nodes)
-            × (group < groups_in (shape_of self.now)) × (64 * unit < (shape_of self.now).ids) }
+    pub fn map(&mut self, node: u8, group: u16, unit: u8) -> u64
+        requires place { (node < (shape_of self.old.core).nodes)
+            × (group < groups_in (shape_of self.old.core)) × (64 * unit < (shape_of self.old.core).ids) }
         requires below_root { 0 < group }
-        ensures seat { IsOf self.now seat.new }
-        ensures loaded { view_of seat.new ≡ with_map (view_of seat.old) (map_number node group
-            unit) result }
-        ensures ids { IsOfIds (shape_of self.now).ids unit result }
+        ensures loaded { self.new ≡ record self.old {
+          view = with_map (view_of self.old) (map_number node group
+              unit) result;
+        } }
+        ensures ids { IsOfIds (shape_of self.old.core).ids unit result }
     {
         let map = Place {
             id: unit as u16,
             node,
             group,
         };
-        let word = bit_word(self.row(map));
-        self.load_as::<Brand>(&mut seat.token, word, number_of(map))
+        let word = bit_word(self.core.row(map));
+        self.core
+            .load_as::<Brand>(&mut self.token, word, number_of(map))
     }
 
     /// Sets the bit of a place below the root, and ends what the seat owes there.
     ///
     /// Linux: `set_shrinker_bit` in mm/shrinker.c.
-    pub fn set_bit(&self, seat: &mut Seat, place: Place)
-        requires seat { IsOf self.now seat.old }
-        requires place { IsPlaceOfShape (shape_of self.now) place }
+    pub fn set_bit(&mut self, place: Place)
+        requires place { IsPlaceOfShape (shape_of self.old.core) place }
         requires below_root { 0 < place.group }
-        ensures seat { IsOf self.now seat.new }
-        ensures set { view_of seat.new ≡ with_set (view_of seat.old) (place_number place) }
+        ensures set { self.new ≡ record self.old { view = with_set (view_of self.old) (place_number place) } }
     {
         let number = number_of(place);
-        let word = bit_word(self.row(map_with(place)));
+        let word = bit_word(self.core.row(map_with(place)));
         let bit = 1 << own_bit(number);
-        self.or_as::<Brand>(&mut seat.token, word, bit, number);
+        self.core.or_as::<Brand>(&mut self.token, word, bit, number);
     }
 
     /// Clears the bit of a place below the root. The seat owes the place until the bit is set or a
     /// count shows no object.
     ///
     /// Linux: `clear_bit` in `shrink_slab_memcg` of mm/shrinker.c.
-    pub fn clear_bit(&self, seat: &mut Seat, place: Place)
-        requires seat { IsOf self.now seat.old }
-        requires place { IsPlaceOfShape (shape_of self.now) place }
+    pub fn clear_bit(&mut self, place: Place)
+        requires place { IsPlaceOfShape (shape_of self.old.core) place }
         requires below_root { 0 < place.group }
-        ensures seat { IsOf self.now seat.new }
-        ensures cleared { view_of seat.new ≡ with_clear (view_of seat.old) (place_number place) }
+        ensures cleared { self.new ≡ record self.old { view = with_clear (view_of self.old) (place_number place) } }
     {
         let number = number_of(place);
-        let word = bit_word(self.row(map_with(place)));
+        let word = bit_word(self.core.row(map_with(place)));
         let others = !(1 << own_bit(number));
-        self.and_as::<Brand>(&mut seat.token, word, others, number);
+        self.core
+            .and_as::<Brand>(&mut self.token, word, others, number);
     }
 }

@@ -7,10 +7,11 @@ ghost use Rattle.shr_core.specs.Steps.{with_one_split, split_off, with_joined, I
 ghost use Rattle.shr_seats.specs.Standing.{IsWhole};
 ghost use Rattle.shr_core.specs.Ending.{IsClosedOf};
 ghost use Rattle.shr_core.specs.Leaving.{IsLeft};
-ghost use Rattle.shr_core.specs.Seats.{IsOf, view_of, shape_of};
+ghost use Rattle.shr_core.specs.Seats.{first_view, shape_of, view_of};
+ghost use Rattle.shr_core.specs.Seating.{IsFirstOf};
 
 use crate::ending::{read_lookups, read_maps, take_ends};
-use crate::seat::{InHand, Seat};
+use crate::seat::{FirstSeat, InHand, Seat};
 use crate::setting::Setting;
 use crate::slot::Slot;
 use crate::table::Core;
@@ -93,12 +94,12 @@ impl Core {
     ///
     /// Linux: `alloc_shrinker_info` in mm/shrinker.c for each group, and `__list_lru_init` in
     /// mm/list_lru.c for each id.
-    pub fn new(alloc: Global, shape: Shape, first_lookup: u32) -> Result<(Core, Seat), Memory>
+    pub fn new(alloc: Global, shape: Shape, first_lookup: u32) -> Result<(Core, FirstSeat), Memory>
         requires shape { IsShape shape }
         ensures setting { IfOk result (λ t. t.0.setting
             ≡ record { shape = shape; first_lookup = first_lookup }) }
-        ensures seat { IfOk result (λ t. IsOf t.0 t.1) }
-        ensures view { IfOk result (λ t. view_of t.1 ≡ opener) }
+        ensures first { IfOk result (λ t. IsFirstOf t.0 t.1) }
+        ensures view { IfOk result (λ t. first_view t.1 ≡ opener) }
     {
         let rooms = shape.sizes().rows() + 1;
         let words = first_words(alloc, KINDS * rooms, first_lookup)?;
@@ -114,12 +115,7 @@ impl Core {
                     setting,
                     alloc,
                 },
-                Seat {
-                    token,
-                    held: None,
-                    rooms: InHand::Nothing,
-                    met: None,
-                },
+                FirstSeat { token, held: None },
             )),
             Err(Refused { slots: _ }) => Err(Memory),
         }
@@ -132,51 +128,14 @@ impl Core {
         &self.setting.shape
     }
 
-    /// One seat more. It knows the pool's entries that the first seat knows. It takes no memory
-    /// today. Our own.
-    pub fn split(&self, seat: &mut Seat) -> Result<Seat, Memory>
-        requires seat { IsOf self.now seat.old }
-        requires first { (view_of seat.old).standing.first ≡ true }
-        requires few { (view_of seat.old).standing.splits < 64 }
-        ensures made { IsOk result }
-        ensures seat { IsOf self.now seat.new }
-        ensures split { view_of seat.new ≡ with_one_split (view_of seat.old) }
-        ensures new { IfOk result (λ other. IsOf self.now other) }
-        ensures view { IfOk result (λ other. view_of other ≡ split_off (view_of seat.old)) }
-    {
-        let token = self.table.shared.split_seat::<Parting>(&mut seat.token);
-        Ok(Seat {
-            token,
-            held: None,
-            rooms: InHand::Nothing,
-            met: None,
-        })
-    }
-
-    /// Joins another seat into the first, which takes over what that one has made and seen. The
-    /// other one is at rest. Our own.
-    pub fn join(&self, seat: &mut Seat, other: Seat)
-        requires seat { IsOf self.now seat.old }
-        requires first { (view_of seat.old).standing.first ≡ true }
-        requires other { IsOf self.now other }
-        requires rest { IsAtRest (view_of other) }
-        ensures seat { IsOf self.now seat.new }
-        ensures joined { view_of seat.new ≡ with_joined (view_of seat.old) (view_of other) }
-    {
-        let shared = &self.table.shared;
-        shared.join_seat::<Parting>(&mut seat.token, other.into_token());
-    }
-
     /// Ends the core, and gives what is left of it. By then all other seats were joined. On
     /// `Memory` the core is gone too. Our own.
-    pub fn finish(self, seat: Seat) -> Result<Closed, Memory>
-        requires seat { IsOf self seat }
-        requires first { (view_of seat).standing.first ≡ true }
-        requires whole { IsWhole (view_of seat).standing }
-        requires rest { (view_of seat).holding.hands ≡ [] }
-        ensures closed { IfOk result (λ closed. IsClosedOf self.setting seat.token.id
-            (view_of seat) closed) }
-        ensures left { IfOk result (λ closed. IsLeft self.setting (view_of seat) closed) }
+    pub fn finish(self, first: FirstSeat) -> Result<Closed, Memory>
+        requires first { IsFirstOf self first }
+        requires whole { IsWhole (first_view first).standing }
+        ensures closed { IfOk result (λ closed. IsClosedOf self.setting first.token.id
+            (first_view first) closed) }
+        ensures left { IfOk result (λ closed. IsLeft self.setting (first_view first) closed) }
         ensures words { IfOk result (λ closed. All (λ m. m.bits < 2 ^ 64) closed.maps.items) }
     {
         let Core {
@@ -184,9 +143,10 @@ impl Core {
             setting,
             alloc,
         } = self;
+        let FirstSeat { token, held: _ } = first;
         let shape = &setting.shape;
         let ids = shape.ids as usize;
-        let mut ended = table.close_with(seat.into_token());
+        let mut ended = table.close_with(token);
         let sizes = shape.sizes();
         let units = ((ids + 63) / 64) as u8;
         let maps = read_maps(alloc, &ended, sizes, units);
@@ -200,5 +160,50 @@ impl Core {
             maps: maps?,
             lookups: lookups?,
         })
+    }
+}
+
+impl<'a> Seat<'a> {
+    /// One seat more. It knows the pool's entries that the first seat knows. It takes no memory
+    /// today. Our own.
+    pub fn split(&mut self) -> Result<Seat<'a>, Memory>
+        requires first { (view_of self.old).standing.first ≡ true }
+        requires few { (view_of self.old).standing.splits < 64 }
+        ensures made { IsOk result }
+        ensures split { self.new ≡ record self.old { view = with_one_split (view_of self.old) } }
+        ensures other { IfOk result (λ other. other
+            ≡ record self.old { view = split_off (view_of self.old) }) }
+    {
+        let core = self.core;
+        let token = core.table.shared.split_seat::<Parting>(&mut self.token);
+        Ok(Seat {
+            core,
+            token,
+            held: None,
+            rooms: InHand::Nothing,
+            met: None,
+        })
+    }
+
+    /// Joins another seat of the core into the first, which takes over what that one has made and
+    /// seen. The other one is at rest. Our own.
+    pub fn join(&mut self, other: Seat<'a>)
+        requires first { (view_of self.old).standing.first ≡ true }
+        requires table { other.core ≡ self.old.core }
+        requires rest { IsAtRest (view_of other) }
+        ensures joined { self.new ≡ record self.old {
+          view = with_joined (view_of self.old)
+              (view_of other.entry);
+        } }
+    {
+        let Seat {
+            core: _,
+            token,
+            held: _,
+            rooms: _,
+            met: _,
+        } = other;
+        let shared = &self.core.table.shared;
+        shared.join_seat::<Parting>(&mut self.token, token);
     }
 }

@@ -6,9 +6,9 @@ ghost use Rattle.shr_core.specs.Layout.{places_in, row_in};
 ghost use Rattle.shr_seats.specs.Shapes.{sizes_of};
 ghost use Rattle.shr_core.specs.Rule.{has_room, pool_content};
 ghost use Rattle.shr_core.specs.Steps.{with_taken, IsTakenPool, with_pool_given, with_phase, in_hand, MayPhase};
-ghost use Rattle.shr_core.specs.Moves.{IsSameSeat};
+ghost use Rattle.shr_core.specs.Moves.{IsHere, IsSameSeat};
 ghost use Rattle.shr_core.specs.Tells.{TakesRoom, turns_content, MadeAll, PoolTold, IsOfPool, raise, Raises};
-ghost use Rattle.shr_core.specs.Seats.{IsOf, HasFirst, view_of, shape_of};
+ghost use Rattle.shr_core.specs.Seats.{HasFirst, view_of, shape_of};
 
 use crate::lookups::unpack;
 use crate::rooms::one_more;
@@ -52,8 +52,7 @@ impl Core {
 
     // One compare and exchange of the pool's lock word.
     fn take_pool_once(&self, token: &mut Token<Slot, View>, room: usize, row: usize) -> bool
-        requires seat { (token.old.table_id ≡ self.now.table.shared.table_id)
-            × (token.old.me.0.standing.gone ≡ false) }
+        requires seat { IsHere self.now token.old }
         requires room { room ≡ places_in (shape_of self.now).ids }
         requires row { (row ≡ row_in (sizes_of (shape_of self.now))
             (places_in (shape_of self.now).ids)) × (row < 2 ^ 40) }
@@ -66,8 +65,7 @@ impl Core {
     }
 
     fn wait_for_pool<R: Wait>(&self, rt: &R, token: &mut Token<Slot, View>, room: usize, row: usize)
-        requires seat { (token.old.table_id ≡ self.now.table.shared.table_id)
-            × (token.old.me.0.standing.gone ≡ false) }
+        requires seat { IsHere self.now token.old }
         requires room { room ≡ places_in (shape_of self.now).ids }
         requires row { (row ≡ row_in (sizes_of (shape_of self.now))
             (places_in (shape_of self.now).ids)) × (row < 2 ^ 40) }
@@ -85,56 +83,9 @@ impl Core {
         unreachable!()
     }
 
-    /// Takes the pool's room, and waits for it. The seat has no room in hand.
-    ///
-    /// Linux: `mutex_lock(&shrinker_mutex)` in mm/shrinker.c.
-    pub fn take_pool<R: Wait>(&self, rt: &R, seat: &mut Seat) -> Pool
-        requires seat { IsOf self.now seat.old }
-        requires rooms { (view_of seat.old).holding.hands ≡ [] }
-        ensures seat { IsOf self.now seat.new }
-        ensures taken { view_of seat.new ≡ with_taken (view_of seat.old)
-            (places_in (shape_of self.now).ids) (pool_content result.entries.items) }
-        ensures told { IsTakenPool (view_of seat.old) result.entries.items }
-        ensures spare { dying_in (shape_of self.now).ids result.entries.items
-            ≤ result.entries.spare }
-        ensures few { length result.entries.items ≤ 65535 * (shape_of self.now).ids }
-        ensures alone { MadeAll (view_of seat.old) result.entries.items }
-    {
-        let room = self.pool_room();
-        let row = self.pool_row();
-        self.wait_for_pool(rt, &mut seat.token, room, row);
-        let entries = self.lift(&mut seat.token, row).into_pool();
-        seat.rooms = one_more(seat.rooms, room);
-        Pool { entries }
-    }
-
-    /// Gives the pool's room back. Its journal is the one that was taken, with the entries of this
-    /// seat's phase steps appended in order, and it has a spare for each dying id.
-    ///
-    /// Linux: `mutex_unlock(&shrinker_mutex)` in mm/shrinker.c.
-    pub fn give_pool(&self, seat: &mut Seat, pool: Pool)
-        requires seat { IsOf self.now seat.old }
-        requires has { 0 < has_room (places_in (shape_of self.now).ids) (view_of seat.old).holding }
-        requires same { pool.entries.items
-            ≡ (in_hand (view_of seat.old) (places_in (shape_of self.now).ids)).pool }
-        requires spare { dying_in (shape_of self.now).ids pool.entries.items ≤ pool.entries.spare }
-        ensures seat { IsOf self.now seat.new }
-        ensures given { view_of seat.new ≡ with_pool_given (view_of seat.old)
-            (places_in (shape_of self.now).ids) }
-    {
-        let Pool { entries } = pool;
-        let room = self.pool_room();
-        let row = self.pool_row();
-        self.to_front(seat, room);
-        let slot = Slot::of_pool(self.alloc, entries);
-        seat.met = None;
-        self.give_pool_front(&mut seat.token, room, row, slot);
-    }
-
     // The pool's journal goes back into its slot, and the lock word is freed.
     fn give_pool_front(&self, token: &mut Token<Slot, View>, number: usize, row: usize, slot: Slot)
-        requires table { (token.old.table_id ≡ self.now.table.shared.table_id)
-            × (token.old.me.0.standing.gone ≡ false) }
+        requires seat { IsHere self.now token.old }
         requires room { number ≡ places_in (shape_of self.now).ids }
         requires row { (row ≡ row_in (sizes_of (shape_of self.now))
             (places_in (shape_of self.now).ids)) × (row < 2 ^ 40) }
@@ -143,12 +94,13 @@ impl Core {
         requires same { slot.pool.items
             ≡ (in_hand token.old.me.0 (places_in (shape_of self.now).ids)).pool }
         requires spare { dying_in (shape_of self.now).ids slot.pool.items ≤ slot.pool.spare }
-        ensures id { IsSameSeat token.old token.new }
-        ensures given { token.new.me ≡ (
-          with_pool_given token.old.me.0
-              (places_in (shape_of self.now).ids),
-          rest token.old.me.1,
-        ) }
+        ensures given { token.new ≡ record token.old {
+          me = (
+            with_pool_given token.old.me.0
+                (places_in (shape_of self.now).ids),
+            rest token.old.me.1,
+          );
+        } }
     {
         self.table.shared.exchange(token, row, slot);
         self.free_as::<Brand>(token, lock_word(row), number);
@@ -156,20 +108,68 @@ impl Core {
 
     // The addition of a phase step.
     fn raise_phase(&self, token: &mut Token<Slot, View>, id: u16, decl: u8, more: u64) -> LookupWord
-        requires table { (token.old.table_id ≡ self.now.table.shared.table_id)
-            × (token.old.me.0.standing.gone ≡ false) }
+        requires seat { IsHere self.now token.old }
         requires may { MayPhase (shape_of self.now) token.old.me.0 id decl }
         requires more { more ≡ raise (decl_of id (in_hand token.old.me.0
             (places_in (shape_of self.now).ids)).pool) decl }
-        ensures id { IsSameSeat token.old token.new }
-        ensures raised { token.new.me ≡ (
-          with_phase (shape_of self.now) token.old.me.0 id decl
-              result,
-          token.old.me.1,
-        ) }
+        ensures raised { token.new ≡ record token.old {
+          me = (
+            with_phase (shape_of self.now) token.old.me.0 id decl
+                result,
+            token.old.me.1,
+          );
+        } }
         ensures of_pool { IsOfPool self.now.setting token.old.me.0 id result }
     {
         unpack(self.add_as::<Brand>(token, lookup_word(id), more, id, decl))
+    }
+}
+
+impl<'a> Seat<'a> {
+    /// Takes the pool's room, and waits for it. The seat has no room in hand.
+    ///
+    /// Linux: `mutex_lock(&shrinker_mutex)` in mm/shrinker.c.
+    pub fn take_pool<R: Wait>(&mut self, rt: &R) -> Pool
+        requires rooms { (view_of self.old).holding.hands ≡ [] }
+        ensures taken { self.new ≡ record self.old {
+          view = with_taken (view_of self.old)
+              (places_in (shape_of self.old.core).ids) (pool_content result.entries.items);
+        } }
+        ensures told { IsTakenPool (view_of self.old) result.entries.items }
+        ensures spare { dying_in (shape_of self.old.core).ids result.entries.items
+            ≤ result.entries.spare }
+        ensures few { length result.entries.items ≤ 65535 * (shape_of self.old.core).ids }
+        ensures alone { MadeAll (view_of self.old) result.entries.items }
+    {
+        let room = self.core.pool_room();
+        let row = self.core.pool_row();
+        self.core.wait_for_pool(rt, &mut self.token, room, row);
+        let entries = self.core.lift(&mut self.token, row).into_pool();
+        self.rooms = one_more(self.rooms, room);
+        Pool { entries }
+    }
+
+    /// Gives the pool's room back. Its journal is the one that was taken, with the entries of this
+    /// seat's phase steps appended in order, and it has a spare for each dying id.
+    ///
+    /// Linux: `mutex_unlock(&shrinker_mutex)` in mm/shrinker.c.
+    pub fn give_pool(&mut self, pool: Pool)
+        requires has { 0 < has_room (places_in (shape_of self.old.core).ids) (view_of self.old).holding }
+        requires same { pool.entries.items
+            ≡ (in_hand (view_of self.old) (places_in (shape_of self.old.core).ids)).pool }
+        requires spare { dying_in (shape_of self.old.core).ids pool.entries.items ≤ pool.entries.spare }
+        ensures given { self.new ≡ record self.old {
+          view = with_pool_given (view_of self.old)
+              (places_in (shape_of self.old.core).ids);
+        } }
+    {
+        let Pool { entries } = pool;
+        let room = self.core.pool_room();
+        let row = self.core.pool_row();
+        self.rooms = self.core.to_front(&mut self.token, self.rooms, room);
+        let slot = Slot::of_pool(self.core.alloc, entries);
+        self.met = None;
+        self.core.give_pool_front(&mut self.token, room, row, slot);
     }
 
     /// Raises an id's phase by one, with the pool in hand, and gives the word as the step found it.
@@ -178,16 +178,15 @@ impl Core {
     ///
     /// Linux: in mm/shrinker.c idle to live is `shrinker_alloc` and `shrinker_register`, live to
     /// dying and dying to idle are `shrinker_free`.
-    pub fn phase(&self, seat: &mut Seat, id: u16, decl: u8) -> LookupWord
-        requires seat { IsOf self.now seat.old }
-        requires may { MayPhase (shape_of self.now) (view_of seat.old) id decl }
-        ensures seat { IsOf self.now seat.new }
-        ensures raised { Raises self.now.setting (view_of seat.old) id decl result
-            (view_of seat.new) }
+    pub fn phase(&mut self, id: u16, decl: u8) -> LookupWord
+        requires may { MayPhase (shape_of self.old.core) (view_of self.old) id decl }
+        ensures raised { Raises self.old.core.setting (view_of self.old) id decl result
+            (view_of self.new) }
+        ensures table { self.new.core ≡ self.old.core }
     {
-        let before = self.word_of(seat, id);
+        let before = unpack(self.core.peek(&mut self.token, id));
         let more = raised_by(before.decl, decl);
-        self.raise_phase(&mut seat.token, id, decl, more)
+        self.core.raise_phase(&mut self.token, id, decl, more)
     }
 }
 

@@ -6,9 +6,9 @@ ghost use Rattle.shr_core.specs.Layout.{row_in};
 ghost use Rattle.shr_seats.specs.Shapes.{sizes_of};
 ghost use Rattle.shr_core.specs.Rule.{IsInside, has_room, list_content};
 ghost use Rattle.shr_core.specs.Steps.{with_taken, with_try, IsTaken, with_given, with_stored, IsLater, in_hand, last_entry, MayStore, without_room};
-ghost use Rattle.shr_core.specs.Moves.{IsSameSeat};
+ghost use Rattle.shr_core.specs.Moves.{IsHere, IsSameSeat};
 ghost use Rattle.shr_core.specs.Tells.{TakesRoom, place_content, PlaceTold, IsBusy, IsInHand};
-ghost use Rattle.shr_core.specs.Seats.{IsOf, IsPlaceOfShape, MayTake, HasFirst, view_of, shape_of, numbers_of, slot_numbers};
+ghost use Rattle.shr_core.specs.Seats.{IsPlaceOfShape, MayTake, HasFirst, view_of, shape_of, numbers_of, room_numbers, room_rows, slot_numbers};
 ghost use Rattle.shr_core.specs.Parts.{Hand};
 ghost use Rattle.shr_core.specs.Slots.{Slot as SlotValue};
 
@@ -53,8 +53,7 @@ impl Core {
 
     // One compare and exchange of a place's lock word.
     fn take_once(&self, token: &mut Token<Slot, View>, room: usize, row: usize) -> bool
-        requires seat { (token.old.table_id ≡ self.now.table.shared.table_id)
-            × (token.old.me.0.standing.gone ≡ false) }
+        requires seat { IsHere self.now token.old }
         requires room { IsInside (shape_of self.now) room }
         requires row { (row ≡ row_in (sizes_of (shape_of self.now)) room) × (row < 2 ^ 40) }
         ensures id { IsSameSeat token.old token.new }
@@ -67,8 +66,7 @@ impl Core {
 
     // The same, and a try in vain is noted.
     fn try_once(&self, token: &mut Token<Slot, View>, room: usize, row: usize) -> bool
-        requires seat { (token.old.table_id ≡ self.now.table.shared.table_id)
-            × (token.old.me.0.standing.gone ≡ false) }
+        requires seat { IsHere self.now token.old }
         requires room { IsInside (shape_of self.now) room }
         requires row { (row ≡ row_in (sizes_of (shape_of self.now)) room) × (row < 2 ^ 40) }
         ensures id { IsSameSeat token.old token.new }
@@ -81,8 +79,7 @@ impl Core {
     }
 
     fn wait_for<R: Wait>(&self, rt: &R, token: &mut Token<Slot, View>, room: usize, row: usize)
-        requires seat { (token.old.table_id ≡ self.now.table.shared.table_id)
-            × (token.old.me.0.standing.gone ≡ false) }
+        requires seat { IsHere self.now token.old }
         requires room { IsInside (shape_of self.now) room }
         requires row { (row ≡ row_in (sizes_of (shape_of self.now)) room) × (row < 2 ^ 40) }
         ensures id { IsSameSeat token.old token.new }
@@ -99,26 +96,76 @@ impl Core {
         unreachable!()
     }
 
+    /// Brings a room's slot to the front of those that the seat has taken, and gives the rooms
+    /// without this one. Our own.
+    pub(crate) fn to_front(
+        &self,
+        token: &mut Token<Slot, View>,
+        rooms: InHand,
+        number: usize,
+    ) -> InHand
+        requires has { 0 < has_room number token.old.me.0.holding }
+        requires rooms { numbers_of rooms ≡ room_numbers token.old.me.0 }
+        requires slots { slot_numbers token.old.me.1
+            ≡ room_rows (shape_of self.now) token.old.me.0 }
+        ensures id { IsSameSeat token.old token.new }
+        ensures same { token.new.me.0 ≡ token.old.me.0 }
+        ensures front { HasFirst token.new.me.1 (row_in (sizes_of (shape_of self.now)) number) }
+        ensures others { slot_numbers (rest token.new.me.1)
+            ≡ map (row_in (sizes_of (shape_of self.now))) (numbers_of result) }
+        ensures rooms { numbers_of result ≡ map (λ (h : Hand). h.room)
+            (without_room number token.old.me.0.holding.hands) }
+    {
+        match rooms {
+            InHand::Nothing => InHand::Nothing,
+            InHand::One { room: _ } => InHand::Nothing,
+            InHand::Two { last, first } => {
+                if last == number {
+                    return InHand::One { room: first };
+                }
+                token.turn();
+                InHand::One { room: last }
+            }
+        }
+    }
+
+    // The list of the room that was taken last goes back into its slot, and the lock word is freed.
+    fn give_front(&self, token: &mut Token<Slot, View>, number: usize, row: usize, slot: Slot)
+        requires seat { IsHere self.now token.old }
+        requires room { IsInside (shape_of self.now) number }
+        requires row { (row ≡ row_in (sizes_of (shape_of self.now)) number) × (row < 2 ^ 40) }
+        requires front { HasFirst token.old.me.1 row }
+        requires has { 0 < has_room number token.old.me.0.holding }
+        requires whole { token.old.me.0.holding.half ≡ None }
+        requires same { IsInHand slot.list (in_hand token.old.me.0 number) }
+        ensures given { token.new ≡ record token.old { me = (with_given token.old.me.0 number, rest token.old.me.1) } }
+    {
+        self.table.shared.exchange(token, row, slot);
+        self.free_as::<Brand>(token, lock_word(row), number);
+    }
+}
+
+impl<'a> Seat<'a> {
     /// Takes a place's room, and waits for it. The seat has no room in hand, or only that of a
     /// child of the place's group.
     ///
     /// Linux: `spin_lock(&nlru->lock)` in mm/list_lru.c.
-    pub fn take_room<R: Wait>(&self, rt: &R, seat: &mut Seat, place: Place) -> Room
-        requires seat { IsOf self.now seat.old }
-        requires place { IsPlaceOfShape (shape_of self.now) place }
-        requires rooms { MayTake (shape_of self.now) (view_of seat.old) place }
-        ensures seat { IsOf self.now seat.new }
+    pub fn take_room<R: Wait>(&mut self, rt: &R, place: Place) -> Room
+        requires place { IsPlaceOfShape (shape_of self.old.core) place }
+        requires rooms { MayTake (shape_of self.old.core) (view_of self.old) place }
         ensures place { result.place ≡ place }
-        ensures taken { view_of seat.new ≡ with_taken (view_of seat.old) (place_number place)
-            (list_content result.list) }
-        ensures told { IsTaken (shape_of self.now) (view_of seat.old) (place_number place)
+        ensures taken { self.new ≡ record self.old {
+          view = with_taken (view_of self.old) (place_number place)
+              (list_content result.list);
+        } }
+        ensures told { IsTaken (shape_of self.old.core) (view_of self.old) (place_number place)
             (list_content result.list) }
     {
         let number = number_of(place);
-        let row = self.row(place);
-        self.wait_for(rt, &mut seat.token, number, row);
-        let list = self.lift(&mut seat.token, row).into_list();
-        seat.rooms = one_more(seat.rooms, number);
+        let row = self.core.row(place);
+        self.core.wait_for(rt, &mut self.token, number, row);
+        let list = self.core.lift(&mut self.token, row).into_list();
+        self.rooms = one_more(self.rooms, number);
         Room { place, list }
     }
 
@@ -126,25 +173,27 @@ impl Core {
     /// recorded in the seat's view. A seat that is alone fails only if it has the room itself.
     ///
     /// Linux: `spin_trylock`, which mm/list_lru.c doesn't use.
-    pub fn try_room(&self, seat: &mut Seat, place: Place) -> Option<Room>
-        requires seat { IsOf self.now seat.old }
-        requires place { IsPlaceOfShape (shape_of self.now) place }
-        requires rooms { MayTake (shape_of self.now) (view_of seat.old) place }
-        ensures seat { IsOf self.now seat.new }
-        ensures missed { result ≡ None → view_of seat.new ≡ with_try (view_of seat.old)
-            (place_number place) }
-        ensures busy { result ≡ None → IsBusy (view_of seat.old) (place_number place) }
+    pub fn try_room(&mut self, place: Place) -> Option<Room>
+        requires place { IsPlaceOfShape (shape_of self.old.core) place }
+        requires rooms { MayTake (shape_of self.old.core) (view_of self.old) place }
+        ensures missed { result ≡ None → self.new ≡ record self.old {
+          view = with_try (view_of self.old)
+              (place_number place);
+        } }
+        ensures busy { result ≡ None → IsBusy (view_of self.old) (place_number place) }
         ensures place { IfSome result (λ room. room.place ≡ place) }
-        ensures taken { IfSome result (λ room. view_of seat.new ≡ with_taken (view_of seat.old)
-            (place_number place) (list_content room.list)) }
-        ensures told { IfSome result (λ room. IsTaken (shape_of self.now) (view_of seat.old)
+        ensures taken { IfSome result (λ room. self.new ≡ record self.old {
+          view = with_taken (view_of self.old)
+              (place_number place) (list_content room.list);
+        }) }
+        ensures told { IfSome result (λ room. IsTaken (shape_of self.old.core) (view_of self.old)
             (place_number place) (list_content room.list)) }
     {
         let number = number_of(place);
-        let row = self.row(place);
-        if self.try_once(&mut seat.token, number, row) {
-            let list = self.lift(&mut seat.token, row).into_list();
-            seat.rooms = one_more(seat.rooms, number);
+        let row = self.core.row(place);
+        if self.core.try_once(&mut self.token, number, row) {
+            let list = self.core.lift(&mut self.token, row).into_list();
+            self.rooms = one_more(self.rooms, number);
             return Some(Room { place, list });
         }
         None
@@ -155,87 +204,40 @@ impl Core {
     ///
     /// Linux: `nr_items` in `list_lru_add`, `list_lru_del` and `list_lru_isolate` of mm/list_lru.c,
     /// changed under the lock. The number of entries is our own.
-    pub fn store_count(&self, seat: &mut Seat, place: Place, list: &List)
-        requires seat { IsOf self.now seat.old }
-        requires place { IsPlaceOfShape (shape_of self.now) place }
-        requires may { MayStore (shape_of self.now) (view_of seat.old) (place_number place)
+    pub fn store_count(&mut self, place: Place, list: &List)
+        requires place { IsPlaceOfShape (shape_of self.old.core) place }
+        requires may { MayStore (shape_of self.old.core) (view_of self.old) (place_number place)
             list.now }
-        ensures seat { IsOf self.now seat.new }
-        ensures stored { view_of seat.new ≡ with_stored (view_of seat.old) (place_number place)
-            (last_entry list.now.entries) list.now.items }
-        ensures later { IsLater (view_of seat.old) (place_number place) }
+        ensures stored { self.new ≡ record self.old {
+          view = with_stored (view_of self.old) (place_number place)
+              (last_entry list.now.entries) list.now.items;
+        } }
+        ensures later { IsLater (view_of self.old) (place_number place) }
     {
         let number = number_of(place);
         let new = list.entries().len() as u64 * ONE_VERSION + list.len() as u64;
-        let word = count_word(self.row(place));
-        self.store_as::<Brand>(&mut seat.token, word, new, number, list);
-    }
-
-    /// Brings a room's slot to the front of those that the seat has taken, and counts the room as
-    /// given back. Our own.
-    pub(crate) fn to_front(&self, seat: &mut Seat, number: usize)
-        requires seat { IsOf self.now seat.old }
-        requires has { 0 < has_room number (view_of seat.old).holding }
-        ensures same { (seat.new.token.table_id ≡ seat.old.token.table_id)
-            × (seat.new.token.id ≡ seat.old.token.id) × (view_of seat.new ≡ view_of seat.old)
-            × (seat.new.held ≡ seat.old.held) × (seat.new.met ≡ seat.old.met) }
-        ensures front { HasFirst seat.new.token.me.1 (row_in (sizes_of (shape_of self.now))
-            number) }
-        ensures others { slot_numbers (rest seat.new.token.me.1)
-            ≡ map (row_in (sizes_of (shape_of self.now))) (numbers_of seat.new.rooms) }
-        ensures rooms { numbers_of seat.new.rooms ≡ map (λ (h : Hand). h.room)
-            (without_room number (view_of seat.old).holding.hands) }
-    {
-        match seat.rooms {
-            InHand::Nothing => {}
-            InHand::One { room: _ } => seat.rooms = InHand::Nothing,
-            InHand::Two { last, first } => {
-                if last == number {
-                    seat.rooms = InHand::One { room: first };
-                } else {
-                    seat.token.turn();
-                    seat.rooms = InHand::One { room: last };
-                }
-            }
-        }
+        let word = count_word(self.core.row(place));
+        self.core
+            .store_as::<Brand>(&mut self.token, word, new, number, list);
     }
 
     /// Gives a room back. Its list is the one that was taken, with the entries appended whose
     /// counts are stored, and no splice is in progress.
     ///
     /// Linux: `spin_unlock(&nlru->lock)` in mm/list_lru.c.
-    pub fn give_room(&self, seat: &mut Seat, room: Room)
-        requires seat { IsOf self.now seat.old }
-        requires place { IsPlaceOfShape (shape_of self.now) room.place }
-        requires has { 0 < has_room (place_number room.place) (view_of seat.old).holding }
-        requires same { IsInHand room.list (in_hand (view_of seat.old) (place_number room.place)) }
-        requires whole { (view_of seat.old).holding.half ≡ None }
-        ensures seat { IsOf self.now seat.new }
-        ensures given { view_of seat.new ≡ with_given (view_of seat.old) (place_number room.place) }
+    pub fn give_room(&mut self, room: Room)
+        requires place { IsPlaceOfShape (shape_of self.old.core) room.place }
+        requires has { 0 < has_room (place_number room.place) (view_of self.old).holding }
+        requires same { IsInHand room.list (in_hand (view_of self.old) (place_number room.place)) }
+        requires whole { (view_of self.old).holding.half ≡ None }
+        ensures given { self.new ≡ record self.old { view = with_given (view_of self.old) (place_number room.place) } }
     {
         let Room { place, list } = room;
         let number = number_of(place);
-        let row = self.row(place);
-        self.to_front(seat, number);
-        let slot = Slot::of_list(self.alloc, list);
-        self.give_front(&mut seat.token, number, row, slot);
-    }
-
-    // The list of the room that was taken last goes back into its slot, and the lock word is freed.
-    fn give_front(&self, token: &mut Token<Slot, View>, number: usize, row: usize, slot: Slot)
-        requires table { (token.old.table_id ≡ self.now.table.shared.table_id)
-            × (token.old.me.0.standing.gone ≡ false) }
-        requires room { IsInside (shape_of self.now) number }
-        requires row { (row ≡ row_in (sizes_of (shape_of self.now)) number) × (row < 2 ^ 40) }
-        requires front { HasFirst token.old.me.1 row }
-        requires has { 0 < has_room number token.old.me.0.holding }
-        requires whole { token.old.me.0.holding.half ≡ None }
-        requires same { IsInHand slot.list (in_hand token.old.me.0 number) }
-        ensures id { IsSameSeat token.old token.new }
-        ensures given { token.new.me ≡ (with_given token.old.me.0 number, rest token.old.me.1) }
-    {
-        self.table.shared.exchange(token, row, slot);
-        self.free_as::<Brand>(token, lock_word(row), number);
+        let row = self.core.row(place);
+        self.rooms = self.core.to_front(&mut self.token, self.rooms, number);
+        let slot = Slot::of_list(self.core.alloc, list);
+        self.core.give_front(&mut self.token, number, row, slot);
     }
 }
 

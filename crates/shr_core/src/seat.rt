@@ -1,7 +1,13 @@
 //! A seat.
 
+ghost use Rattle.std.specs.Prelude.{◌≡◌, [], true};
+ghost use Rattle.shr_core.specs.Seats.{view_of, first_view};
+ghost use Rattle.shr_core.specs.Seating.{IsFirstOf};
+
 use crate::slot::Slot;
+use crate::table::Core;
 use crate::view::View;
+use std::marker::Model;
 
 /// The rooms that a seat has in hand, by their numbers. Our own.
 #[derive(Clone, Copy)]
@@ -24,37 +30,74 @@ pub struct Met {
 
 /// A thread's access to a core. Each seat has a view: what it has made and seen, holds and owes
 /// there. It keeps the registration that it met last until it takes the pool's journal again. Our own.
-pub struct Seat {
+#[derive(Drop)]
+pub struct Seat<'a> {
+    pub(crate) core: &'a Core,
     pub(crate) token: atomic_table::Seat<Slot, View>,
     pub(crate) held: Option<u16>,
     pub(crate) rooms: InHand,
     pub(crate) met: Option<Met>,
 }
 
-impl Seat {
-    ghost use Rattle.std.specs.Prelude.{◌≡◌};
+impl<'a> Model for Seat<'a> {
+    ghost use Rattle.shr_core.specs.Seats.{Seated};
 
-    /// The table's seat in this one. Our own.
-    pub(crate) fn into_token(self) -> atomic_table::Seat<Slot, View>
-        ensures { result ≡ self.token }
+    ghost Value = { Seated };
+
+    ghost use Rattle.shr_core.specs.Seating.{IsOf};
+
+    ghost view = { λ s. record { core = s.core.now; view = s.token.me.0 } };
+
+    ghost invariant = { λ s. IsOf s.core.now s };
+}
+
+/// The first seat of a core while it isn't at the core: before the threads run, and after. Our own.
+#[derive(Drop)]
+pub struct FirstSeat {
+    pub(crate) token: atomic_table::Seat<Slot, View>,
+    pub(crate) held: Option<u16>,
+}
+
+impl FirstSeat {
+    /// The first seat at its core. Our own.
+    pub fn at<'a>(self, core: &'a Core) -> Seat<'a>
+        requires first { IsFirstOf core.now self }
+        ensures { result ≡ record { core = core.now; view = first_view self } }
     {
-        let Seat {
+        let FirstSeat { token, held } = self;
+        Seat {
+            core,
             token,
-            held: _,
-            rooms: _,
-            met: _,
-        } = self;
-        token
+            held,
+            rooms: InHand::Nothing,
+            met: None,
+        }
     }
 }
 
-impl Drop for Seat {
-    fn drop(self) {
+impl<'a> Seat<'a> {
+    /// The core that the seat is of. Our own.
+    pub fn core(&self) -> &'a Core
+        ensures { result.now ≡ self.now.core }
+    {
+        self.core
+    }
+
+    /// The first seat leaves its core, so that the core can be ended. It has no room in hand.
+    /// Our own.
+    pub fn leave(self) -> FirstSeat
+        requires first { (view_of self).standing.first ≡ true }
+        requires rest { (view_of self).holding.hands ≡ [] }
+        ensures first { IsFirstOf self.entry.core result }
+        ensures view { first_view result ≡ view_of self.entry }
+    {
         let Seat {
-            token: _,
-            held: _,
+            core: _,
+            token,
+            held,
             rooms: _,
             met: _,
         } = self;
+        FirstSeat { token, held }
     }
 }

@@ -1,7 +1,7 @@
 //! Each kind of atomic operation once. The call that makes it says what it tells.
 ghost use Rattle.std.specs.Prelude.{ℕ, ◌+◌, ◌-◌, ◌%◌, ◌^◌, ◌<◌, bit_or, bit_and, ◌==◌};
 ghost use prog.Atomic.{either};
-ghost use Rattle.shr_core.specs.Moves.{MayStep, IsSameSeat};
+ghost use Rattle.shr_core.specs.Moves.{MayStep, IsTold};
 
 use crate::slot::Slot;
 use crate::table::Core;
@@ -20,8 +20,7 @@ impl Core {
         _at: usize,
     ) -> u64
         requires { MayStep self.now token.old word (λ n. n) T.tells }
-        ensures id { IsSameSeat token.old token.new }
-        ensures told { T.tells result token.new.me }
+        ensures { IsTold token.old token.new (T.tells result) }
     {
         self.table.shared.load::<Told<T>>(token, word)
     }
@@ -35,8 +34,7 @@ impl Core {
         _at: usize,
     )
         requires { MayStep self.now token.old word (λ n. bit_or n mask) T.tells }
-        ensures id { IsSameSeat token.old token.new }
-        ensures told { (n : ℕ) × T.tells n token.new.me }
+        ensures { (n : ℕ) × IsTold token.old token.new (T.tells n) }
     {
         self.table.shared.fetch_or::<Told<T>>(token, word, mask);
     }
@@ -50,8 +48,7 @@ impl Core {
         _at: usize,
     )
         requires { MayStep self.now token.old word (λ n. bit_and n mask) T.tells }
-        ensures id { IsSameSeat token.old token.new }
-        ensures told { (n : ℕ) × T.tells n token.new.me }
+        ensures { (n : ℕ) × IsTold token.old token.new (T.tells n) }
     {
         self.table.shared.fetch_and::<Told<T>>(token, word, mask);
     }
@@ -66,8 +63,7 @@ impl Core {
         _list: &List,
     )
         requires { MayStep self.now token.old word (λ _. new) (λ _. T.tells new) }
-        ensures id { IsSameSeat token.old token.new }
-        ensures told { T.tells new token.new.me }
+        ensures { IsTold token.old token.new (T.tells new) }
     {
         self.table.shared.store::<Told<T>>(token, word, new);
     }
@@ -80,8 +76,7 @@ impl Core {
         _at: usize,
     )
         requires { MayStep self.now token.old word (λ _. 0) (λ _. T.tells 0) }
-        ensures id { IsSameSeat token.old token.new }
-        ensures told { T.tells 0 token.new.me }
+        ensures { IsTold token.old token.new (T.tells 0) }
     {
         self.table.shared.store::<Told<T>>(token, word, 0);
     }
@@ -96,8 +91,7 @@ impl Core {
         _decl: u8,
     ) -> u64
         requires { MayStep self.now token.old word (λ n. (n + more) % 2 ^ 64) T.tells }
-        ensures id { IsSameSeat token.old token.new }
-        ensures told { T.tells result token.new.me }
+        ensures { IsTold token.old token.new (T.tells result) }
     {
         self.table.shared.fetch_add::<Told<T>>(token, word, more)
     }
@@ -110,8 +104,7 @@ impl Core {
         less: u64,
     ) -> u64
         requires { MayStep self.now token.old word (λ n. (n + (2 ^ 64 - less)) % 2 ^ 64) T.tells }
-        ensures id { IsSameSeat token.old token.new }
-        ensures told { T.tells result token.new.me }
+        ensures { IsTold token.old token.new (T.tells result) }
     {
         self.table.shared.fetch_sub::<Told<T>>(token, word, less)
     }
@@ -126,8 +119,7 @@ impl Core {
         _row: usize,
     ) -> u64
         requires { MayStep self.now token.old word (λ n. either (n == 0) 1 n) T.tells }
-        ensures id { IsSameSeat token.old token.new }
-        ensures told { T.tells result token.new.me }
+        ensures { IsTold token.old token.new (T.tells result) }
     {
         self.table
             .shared
@@ -145,8 +137,7 @@ impl Core {
         _id: u16,
     ) -> u64
         requires { MayStep self.now token.old word (λ n. either (n == old) new n) T.tells }
-        ensures id { IsSameSeat token.old token.new }
-        ensures told { T.tells result token.new.me }
+        ensures { IsTold token.old token.new (T.tells result) }
     {
         self.table
             .shared

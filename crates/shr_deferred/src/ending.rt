@@ -1,14 +1,16 @@
 //! The table at the end.
 
-ghost use Rattle.std.specs.Prelude.{◌≡◌, ◌<◌, ◌%◌, ◌^◌, true, IfOk, slice_index};
+ghost use Rattle.std.specs.Prelude.{◌≡◌, ◌<◌, ◌%◌, ◌^◌, IfOk, slice_index};
 ghost use Rattle.std.specs.Mem.Slots.{slots_items, slots_len, IsFull};
 ghost use Rattle.shr_seats.specs.Standing.{IsWhole};
+ghost use Rattle.shr_seats.specs.Lines.{acts_of};
 ghost use Rattle.shr_seats.specs.Rows.{row_count};
 ghost use Rattle.shr_deferred.specs.Left.{amounts, left_over};
 ghost use Rattle.shr_deferred.specs.History.{HasHistory};
-ghost use Rattle.shr_deferred.specs.Seat.{IsDeferredSeat, moves_of, deferred_standing, strands_of};
+ghost use Rattle.shr_deferred.specs.Rule.{strands_in};
+ghost use Rattle.shr_deferred.specs.Seat.{IsFirstDeferredOf, first_deferred};
 
-use crate::table::{Deferred, DeferredSeat};
+use crate::table::{Deferred, FirstDeferredSeat};
 use atomic_table::Closed;
 use shr_base::ends::PlaceAmount;
 use shr_base::log::Log;
@@ -47,15 +49,16 @@ impl Deferred {
     ///
     /// By then all other seats were joined into the first one, so each amount is what that seat's
     /// view gave at the place less what it took. On `Memory` the table is gone too. Our own.
-    pub fn finish(self, alloc: Global, seat: DeferredSeat) -> Result<Log<PlaceAmount>, Memory>
-        requires seat { IsDeferredSeat self seat }
-        requires first { (deferred_standing seat).first ≡ true }
-        requires whole { IsWhole (deferred_standing seat) }
-        ensures left { IfOk result (λ v. v.items ≡ left_over self.sizes (moves_of seat)) }
-        ensures history { IfOk result (λ v. HasHistory self.sizes (strands_of seat) v.items) }
+    pub fn finish(self, alloc: Global, first: FirstDeferredSeat) -> Result<Log<PlaceAmount>, Memory>
+        requires first { IsFirstDeferredOf self first }
+        requires whole { IsWhole (first_deferred first).standing }
+        ensures left { IfOk result (λ v. v.items
+            ≡ left_over self.sizes (acts_of (first_deferred first).did)) }
+        ensures history { IfOk result (λ v. HasHistory self.sizes (strands_in
+            (first_deferred first)) v.items) }
     {
         let Deferred { table, sizes } = self;
-        let closed = table.close_with(seat);
+        let closed = table.close_with(first.token);
         let left = amounts_of(alloc, &closed, sizes);
         closed.free();
         left

@@ -13,4 +13,4 @@ pub mod sharing;
 pub mod table;
 pub mod view;
 
-pub use table::{Deferred, DeferredSeat};
+pub use table::{Deferred, DeferredSeat, FirstDeferredSeat};

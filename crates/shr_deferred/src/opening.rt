@@ -1,11 +1,10 @@
 //! The table at the start.
 
-ghost use Rattle.std.specs.Prelude.{◌≡◌, ◌<◌, [], ◌∷◌, replicate, IfOk};
-ghost use Rattle.shr_seats.specs.Standing.{at_first};
-ghost use Rattle.shr_deferred.specs.Moves.{no_moves};
-ghost use Rattle.shr_deferred.specs.Seat.{IsDeferredSeat, did_of, moves_of, deferred_standing, strands_of};
+ghost use Rattle.std.specs.Prelude.{◌≡◌, ◌<◌, replicate, IfOk};
+ghost use Rattle.shr_deferred.specs.Rule.{first_view};
+ghost use Rattle.shr_deferred.specs.Seat.{IsFirstDeferredOf, first_deferred};
 
-use crate::table::{Deferred, DeferredSeat};
+use crate::table::{Deferred, FirstDeferredSeat};
 use atomic_table::Table;
 use shr_base::memory::Memory;
 use shr_seats::rows::Sizes;
@@ -22,17 +21,14 @@ impl Deferred {
     /// is kept.
     ///
     /// Linux: `alloc_shrinker_info` in mm/shrinker.c for each group.
-    pub fn new(alloc: Global, sizes: Sizes) -> Result<(Deferred, DeferredSeat), Memory>
+    pub fn new(alloc: Global, sizes: Sizes) -> Result<(Deferred, FirstDeferredSeat), Memory>
         requires { (0 < sizes.ids) × (0 < sizes.nodes) × (0 < sizes.groups) }
         ensures sizes { IfOk result (λ t. t.0.sizes ≡ sizes) }
-        ensures seat { IfOk result (λ t. IsDeferredSeat t.0 t.1) }
-        ensures standing { IfOk result (λ t. deferred_standing t.1 ≡ at_first) }
-        ensures did { IfOk result (λ t. did_of t.1 ≡ []) }
-        ensures moves { IfOk result (λ t. moves_of t.1 ≡ no_moves) }
-        ensures strands { IfOk result (λ t. strands_of t.1 ≡ no_moves ∷ []) }
+        ensures first { IfOk result (λ t. IsFirstDeferredOf t.0 t.1) }
+        ensures view { IfOk result (λ t. first_deferred t.1 ≡ first_view) }
     {
         let words = zeros(alloc, sizes.rows())?;
-        let (table, seat) = Table::of_words(alloc, &words, &sizes)?;
-        Ok((Deferred { table, sizes }, seat))
+        let (table, token) = Table::of_words(alloc, &words, &sizes)?;
+        Ok((Deferred { table, sizes }, FirstDeferredSeat { token }))
     }
 }

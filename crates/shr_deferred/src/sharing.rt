@@ -1,47 +1,61 @@
-//! Seats for further threads.
+//! Sitting down at the table, leaving it, and seats for further threads.
 
-ghost use Rattle.std.specs.Prelude.{◌≡◌, true, [], ◌∷◌, ◌++◌, IfOk, IsOk};
-ghost use Rattle.shr_seats.specs.Standing.{at_split, with_split, with_join};
-ghost use Rattle.shr_deferred.specs.Moves.{no_moves, both};
-ghost use Rattle.shr_deferred.specs.Seat.{IsDeferredSeat, did_of, moves_of, deferred_standing, strands_of};
+ghost use Rattle.std.specs.Prelude.{◌≡◌, true, IfOk, IsOk};
+ghost use Rattle.shr_deferred.specs.Rule.{joined_view, new_view, with_split_view};
+ghost use Rattle.shr_deferred.specs.Seat.{IsFirstDeferredOf, first_deferred, first_seated, deferred_standing};
 
 use crate::law::Seating;
-use crate::table::{Deferred, DeferredSeat};
+use crate::table::{Deferred, DeferredSeat, FirstDeferredSeat};
 use shr_base::memory::Memory;
 
-impl Deferred {
+impl FirstDeferredSeat {
+    /// The seat at its table. Our own.
+    pub fn at<'a>(self, deferred: &'a Deferred) -> DeferredSeat<'a>
+        requires { IsFirstDeferredOf deferred.now self }
+        ensures { result ≡ first_seated deferred.now self }
+    {
+        DeferredSeat {
+            deferred,
+            token: self.token,
+        }
+    }
+}
+
+impl<'a> DeferredSeat<'a> {
     /// A further seat, which has moved nothing. Only the first seat is split. It takes no memory
     /// today. Our own.
-    pub fn split(&self, seat: &mut DeferredSeat) -> Result<DeferredSeat, Memory>
-        requires seat { IsDeferredSeat self.now seat.old }
-        requires first { (deferred_standing seat.old).first ≡ true }
+    pub fn split(&mut self) -> Result<DeferredSeat<'a>, Memory>
+        requires first { (deferred_standing self.old).first ≡ true }
         ensures made { IsOk result }
-        ensures seat { IsDeferredSeat self.now seat.new }
-        ensures did { did_of seat.new ≡ did_of seat.old }
-        ensures moves { moves_of seat.new ≡ moves_of seat.old }
-        ensures strands { strands_of seat.new ≡ strands_of seat.old }
-        ensures id { seat.new.id ≡ seat.old.id }
-        ensures standing { deferred_standing seat.new ≡ with_split (deferred_standing seat.old) }
-        ensures other { IfOk result (λ s. IsDeferredSeat self.now s) }
-        ensures other_did { IfOk result (λ s. did_of s ≡ []) }
-        ensures other_moves { IfOk result (λ s. moves_of s ≡ no_moves) }
-        ensures other_standing { IfOk result (λ s. deferred_standing s ≡ at_split) }
+        ensures split { self.new ≡ record self.old { view = with_split_view self.old.view } }
+        ensures other { IfOk result (λ s. (s.deferred ≡ self.old.deferred) × (s.view ≡ new_view)) }
     {
-        Ok(self.table.shared.split_seat::<Seating>(seat))
+        let deferred = self.deferred;
+        Ok(DeferredSeat {
+            deferred,
+            token: deferred.table.shared.split_seat::<Seating>(&mut self.token),
+        })
     }
 
     /// Joins another seat into the first one, which takes over what it took and gave. Our own.
-    pub fn join(&self, seat: &mut DeferredSeat, other: DeferredSeat)
-        requires seat { IsDeferredSeat self.now seat.old }
-        requires first { (deferred_standing seat.old).first ≡ true }
-        requires other { IsDeferredSeat self.now other }
-        ensures seat { IsDeferredSeat self.now seat.new }
-        ensures did { did_of seat.new ≡ did_of seat.old ++ did_of other }
-        ensures moves { moves_of seat.new ≡ both (moves_of seat.old) (moves_of other) }
-        ensures strands { strands_of seat.new ≡ strands_of seat.old ++ moves_of other ∷ [] }
-        ensures id { seat.new.id ≡ seat.old.id }
-        ensures standing { deferred_standing seat.new ≡ with_join (deferred_standing seat.old) }
+    pub fn join(&mut self, other: DeferredSeat<'a>)
+        requires first { (deferred_standing self.old).first ≡ true }
+        requires table { other.deferred ≡ self.old.deferred }
+        ensures { self.new ≡ record self.old {
+          view = joined_view self.old.view
+              other.entry.view;
+        } }
     {
-        self.table.shared.join_seat::<Seating>(seat, other);
+        let shared = &self.deferred.table.shared;
+        shared.join_seat::<Seating>(&mut self.token, other.token);
+    }
+
+    /// Leaves the table with its first seat. Our own.
+    pub fn leave(self) -> FirstDeferredSeat
+        requires first { (deferred_standing self).first ≡ true }
+        ensures first { IsFirstDeferredOf self.entry.deferred result }
+        ensures view { first_deferred result ≡ self.entry.view }
+    {
+        FirstDeferredSeat { token: self.token }
     }
 }

@@ -6,12 +6,10 @@ use Rattle.shr_base.specs.declared.replies.Spent.TheVariants as spent
 use Rattle.shr_model.specs.Objects.{unmarked_object}
 use Rattle.shr_model.proofs.ScanLaws.{scan_spent, scan_none, scan_removed, scan_skipped, scan_rotated, scan_rotated_last, scan_stopped, freed_asked}
 use Rattle.shr_core.specs.Parts.{Claims}
-use Rattle.shr_core.specs.Seats as core
+use Rattle.shr_core.specs.Seats.{Seated}
 use Rattle.shr_core.proofs.Owing.{still_none}
-use Rattle.shr_core.specs.declared.seat.Seat.{Seat}
 use Rattle.shr_charge.specs.Seat.{uses_of, tree_of}
-use Rattle.shr_deferred.specs.Seat as deferred
-use Rattle.shr_deferred.specs.Seat.{moves_of}
+use Rattle.shr_deferred.specs.Seat.{DeferredSeated, moves_of}
 use Rattle.shr_opening.specs.Opening.{AreHolding}
 use Rattle.shr_walk.specs.declared.seats.CacheSeat.{CacheSeat}
 use Rattle.shr_walk.specs.declared.seats.Seats.{Seats}
@@ -167,16 +165,16 @@ module _ (x : Shared) (place : Place) (walk : ℕ) (by : Serial) (policy : Polic
   pub held_still : (c : CacheSeat) → AreHolding x place.id s → Keeps x (place_number place) walk by policy s.cache c → (view_of c.core).claims.held ≢ None
   held_still c h k = some_id place.id (view_of c.core).claims.held (ap (λ (y : Claims). y.held) (k.walks.claims h.owner) ∙ h.held)
 
-  pub rested_then : (t : Seats) (last : Seat) → AreHolding x place.id s → Keeps x (place_number place) walk by policy s.cache t.cache → IsSameElse s t → core.IsOf x.core last → view_of last ≡ with_put (view_of t.cache.core)
+  pub rested_then : (t : Seats) (last : Seated) → AreHolding x place.id s → Keeps x (place_number place) walk by policy s.cache t.cache → IsSameElse s t → last ≡ record t.cache.core { view = with_put (view_of t.cache.core) }
       → IsRested x (record { cache = record { core = last; charge = t.cache.charge; uses = t.cache.uses }; deferred = t.deferred; walks = t.walks; carries = t.carries })
-  rested_then t last h k same of back = record {
-    core = of;
+  rested_then t last h k same back = record {
+    core = ap (λ (q : Seated). q.core) back ∙ (k.core ∙ h.core);
     idle = record {
-      rooms = ap (λ (v : View). v.holding) back ∙ (k.walks.holding ∙ h.rooms);
-      held = ap (λ (v : View). v.claims.held) back;
-      owner = ap (λ (v : View). v.claims.owner) back ∙ (ap (λ (y : Claims). y.owner) (k.walks.claims h.owner) ∙ h.owner);
+      rooms = ap (λ (q : Seated). q.view.holding) back ∙ (k.walks.holding ∙ h.rooms);
+      held = ap (λ (q : Seated). q.view.claims.held) back;
+      owner = ap (λ (q : Seated). q.view.claims.owner) back ∙ (ap (λ (y : Claims). y.owner) (k.walks.claims h.owner) ∙ h.owner);
     };
-    owed = ap (λ (v : View). v.marks.owed) back ∙ still_none (view_of s.cache.core) (view_of t.cache.core) h.owed k.walks.owed;
-    charge = k.charge h.charge;
-    deferred = subst (λ (d : deferred.DeferredSeat). deferred.IsDeferredSeat x.deferred d) (sym same.deferred) h.deferred;
+    owed = ap (λ (q : Seated). q.view.marks.owed) back ∙ still_none (view_of s.cache.core) (view_of t.cache.core) h.owed k.walks.owed;
+    charge = k.charge ∙ h.charge;
+    deferred = ap (λ (d : DeferredSeated). d.deferred) same.deferred ∙ h.deferred;
   }

@@ -61,7 +61,7 @@ pub fn isolate<R: Wait>(
     let declared = &shared.script.caches.as_slice()[decl as usize];
     let lister = Lister::new(rt, shared, place, declared, false, by, FIRST + number);
     let made = visit_all(&lister, &mut worker.seats, budget);
-    shared.core.put(&mut worker.seats.cache.core);
+    worker.seats.cache.core.put();
     log.push(Isolation {
         by,
         place,

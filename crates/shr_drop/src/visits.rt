@@ -25,7 +25,7 @@ pub struct Visited {
 
 /// Visits the list up to `budget` times, each time from its head. The room of the list is taken for each visit and given
 /// back after it. Our own.
-pub(crate) fn visit_all<R: Wait>(lister: &Lister<R>, seats: &mut Seats, budget: u32) -> Visited
+pub(crate) fn visit_all<R: Wait>(lister: &Lister<R>, seats: &mut Seats<'_>, budget: u32) -> Visited
     requires shared { IsShared (listing_of lister.now).shared }
     requires place { let a = listing_of lister.now in IsPlaceOfShape (shape_of a.shared.core)
         a.place }

@@ -1,5 +1,5 @@
 -- What closing one list into its parent's needs and says.
-use Rattle.shr_node.proofs.Common.{◌≡◌, ℕ, ◌<◌, Bool, true, false, cond, eqb, lt-ltb, eq-eqb, inr, List, [], ◌∷◌, ◌++◌, length, sym, refl, ap, subst, ◌∙◌, arith, length-append, ◌&&◌, ◌||◌, nat_lt, Place, Closed, MovedIn, place_number, parent_of, is_child, is_closed, AreChildrenMovedIn, IsAtOrAbove-refl, Listed, IsSound, Core, View, Room, RoomContent, Holding, no_rooms, group_of, list_content, groups_in, MayTake, shape_of, IsTaken, IsCounted, with_taken, with_given, Gains, Knows, KnowsClosed, group_place, AreBothTaken, ltb, Hand}
+use Rattle.shr_node.proofs.Common.{◌≡◌, ℕ, ◌<◌, Bool, true, false, cond, eqb, lt-ltb, eq-eqb, inr, List, [], ◌∷◌, ◌++◌, length, sym, refl, ap, subst, ◌∙◌, arith, length-append, ◌&&◌, ◌||◌, nat_lt, Place, Closed, MovedIn, place_number, parent_of, is_child, is_closed, AreChildrenMovedIn, IsAtOrAbove-refl, Listed, IsSound, Core, View, Room, RoomContent, Holding, no_rooms, group_of, list_content, groups_in, MayTake, Seated, shape_of, view_of, IsTaken, IsCounted, with_taken, with_given, Gains, Knows, KnowsClosed, group_place, AreBothTaken, ltb, Hand}
 use Rattle.shr_model.proofs.ListLaws.{is_closed_push}
 use Rattle.shr_list.specs.Answers as answer
 use Rattle.shr_node.specs.Closes.{ClosesOne, WasClosed}
@@ -10,14 +10,15 @@ use Rattle.shr_node.proofs.Pairing.{gains_both, knows_both}
 use Rattle.shr_node.proofs.Closing.{are_taken, both_ready, children_moved, above_counted, closing_of, closing_gains, counted_taken}
 
 -- with the child's room in hand its parent's may be taken
-pub may_take_above : (core : Core) (v w : View) (id node group parent : ℕ) (content : RoomContent) → v.holding ≡ no_rooms → w ≡ with_taken v (place_number (group_place id node group)) content → (0 < group) × (group < groups_in (shape_of core)) → parent ≡ parent_of (shape_of core).parents.items group
-    → MayTake (shape_of core) w (group_place id node parent)
-may_take_above core v w id node group parent content none taken low is = let parents : List ℕ = (shape_of core).parents.items in let k : ℕ = place_number (group_place id node group) in let hand : Hand = record { room = k; content = content } in
-    let near : group < 256 = let there = low.1 in let few = core.limits.4 in omega (arith, there, few) in let lower = core.tree.lower group low.0 low.1 in
+pub may_take_above : (s t : Seated) (core : Core) (id node group parent : ℕ) (content : RoomContent) → (view_of s).holding ≡ no_rooms → t ≡ record s { view = with_taken (view_of s) (place_number (group_place id node group)) content } → (0 < group) × (group < groups_in (shape_of s.core)) → core ≡ t.core → parent ≡ parent_of (shape_of core).parents.items group
+    → MayTake (shape_of t.core) (view_of t) (group_place id node parent)
+may_take_above s t core id node group parent content none taken low table told = let parents : List ℕ = (shape_of s.core).parents.items in let k : ℕ = place_number (group_place id node group) in let hand : Hand = record { room = k; content = content } in
+    let is : parent ≡ parent_of parents group = told ∙ ap (λ (x : Core). parent_of (shape_of x).parents.items group) (table ∙ ap (λ (x : Seated). x.core) taken) in
+    let near : group < 256 = let there = low.1 in let few = s.core.limits.4 in omega (arith, there, few) in let lower = s.core.tree.lower group low.0 low.1 in
     let child : is_child parents parent group ≡ true = ap (λ (b : Bool). b && ltb group (length parents) && eqb (parent_of parents group) parent) (lt-ltb 0 group low.0)
     ∙ (ap (λ (b : Bool). b && eqb (parent_of parents group) parent) (lt-ltb group (length parents) low.1) ∙ eq-eqb (parent_of parents group) parent (sym is)) in
     let own : group_of k ≡ group = omega (arith, near) in
-    subst (λ (x : View). MayTake (shape_of core) x (group_place id node parent)) (sym taken) (inr (
+    subst (λ (x : Seated). MayTake (shape_of x.core) (view_of x) (group_place id node parent)) (sym taken) (inr (
       hand,
       ap (λ (h : Holding). hand ∷ h.hands) none,
       omega (arith, near, lower, is),
@@ -25,14 +26,16 @@ may_take_above core v w id node group parent content none taken low is = let par
     ))
 
 -- both rooms were taken, the child's and then its parent's
-pub pair_taken : (core : Core) (v w x : View) (id node group parent : ℕ) (child above : Room) → v.holding ≡ no_rooms → (id < (shape_of core).ids) × (node < (shape_of core).nodes) → (0 < group) × (group < groups_in (shape_of core))
-    → parent ≡ parent_of (shape_of core).parents.items group → child.place ≡ group_place id node group → w ≡ with_taken v (place_number (group_place id node group)) (list_content child.list) → IsTaken (shape_of core) v (place_number (group_place id node group)) (list_content child.list)
-    → above.place ≡ group_place id node parent → x ≡ with_taken w (place_number (group_place id node parent)) (list_content above.list) → IsTaken (shape_of core) w (place_number (group_place id node parent)) (list_content above.list)
-    → AreBothTaken (shape_of core) v x child.place above.place child.list above.list
-pair_taken core v w x id node group parent child above none place low is child-place taken told above-place taken-above told-above = are_taken (shape_of core) v w x id node group parent child above none
+pub pair_taken : (s t x : Seated) (core : Core) (id node group parent : ℕ) (child above : Room) → (view_of s).holding ≡ no_rooms → (id < (shape_of s.core).ids) × (node < (shape_of s.core).nodes) → (0 < group) × (group < groups_in (shape_of s.core)) → core ≡ t.core
+    → parent ≡ parent_of (shape_of core).parents.items group → child.place ≡ group_place id node group → t ≡ record s { view = with_taken (view_of s) (place_number (group_place id node group)) (list_content child.list) } → IsTaken (shape_of s.core) (view_of s) (place_number (group_place id node group)) (list_content child.list)
+    → above.place ≡ group_place id node parent → x ≡ record t { view = with_taken (view_of t) (place_number (group_place id node parent)) (list_content above.list) } → IsTaken (shape_of t.core) (view_of t) (place_number (group_place id node parent)) (list_content above.list)
+    → AreBothTaken (shape_of s.core) (view_of s) (view_of x) child.place above.place child.list above.list
+pair_taken s t x core id node group parent child above none place low table same child-place taken told above-place taken-above told-above = let is = same ∙ ap (λ (y : Core). parent_of (shape_of y).parents.items group) (table ∙ ap (λ (y : Seated). y.core) taken) in
+    are_taken (shape_of s.core) (view_of s) (view_of t) (view_of x) id node group parent child above none
     (record { id = place.0; node = place.1; group = low.1 })
-    (record { id = place.0; node = place.1; group = let lower = core.tree.lower group low.0 low.1 in let there = low.1 in omega (arith, lower, is, there) })
-    low.0 is child-place taken told above-place taken-above told-above
+    (record { id = place.0; node = place.1; group = let lower = s.core.tree.lower group low.0 low.1 in let there = low.1 in omega (arith, lower, is, there) })
+    low.0 is child-place (ap (λ (y : Seated). y.view) taken) told above-place (ap (λ (y : Seated). y.view) taken-above)
+    (subst (λ (y : Core). IsTaken (shape_of y) (view_of t) (place_number (group_place id node parent)) (list_content above.list)) (ap (λ (y : Seated). y.core) taken) told-above)
 
 -- the list was closed before
 pub was_closed : (v w x : View) (id node group : ℕ) (room : Room) → room.place ≡ group_place id node group → w ≡ with_taken v (place_number (group_place id node group)) (list_content room.list) → x ≡ with_given w (place_number room.place) → is_closed room.list.entries ≡ true → WasClosed v x id node group

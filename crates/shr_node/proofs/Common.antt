@@ -17,7 +17,7 @@ pub use Rattle.shr_core.proofs.Options.{is_some_no, is_some_yes, not_some}
 pub use Rattle.shr_core.specs.Layout.{beside, group_of, place_id, node_of}
 pub use Rattle.shr_core.specs.Parts.{Claims, RoomContent, Counted, Hand, Holding, Known, Made, no_rooms}
 pub use Rattle.shr_core.specs.Rule.{AreBorn, has_room, is_room, is_some_of, list_content, mark_of}
-pub use Rattle.shr_core.specs.Seats.{IsOf, IsPlaceOfShape, MayTake, shape_of, view_of}
+pub use Rattle.shr_core.specs.Seats.{IsPlaceOfShape, MayTake, Seated, shape_of, view_of}
 pub use Rattle.shr_core.specs.Steps.{IsBacked, IsCounted, IsTaken, IsUnspliced, MayStore, content_in, drained_after, half_after, in_hand, is_empty, last_entry, moved_in_hand, owed_after, with_content, with_drained, with_given, with_set, with_stored, with_taken, without_room}
 pub use Rattle.shr_core.specs.Tells.{IsInHand}
 pub use Rattle.shr_core.specs.declared.rooms.Room.{Room}

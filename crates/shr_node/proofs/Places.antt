@@ -1,5 +1,5 @@
 -- Acting on the list of one place, and giving its room back.
-use Rattle.shr_node.proofs.Common.{◌≡◌, ℕ, ◌<◌, ◌≤◌, Bool, false, List, [], ◌∷◌, ◌++◌, length, inl, inr, sym, refl, ap, subst, ◌∙◌, arith, true, MatchBool, ◌==◌, Some, Object, Policy, Place, Serial, Entry, place_number, IsTree, is_closed, Listed, Takes, RefusesWorn, LacksMemory, TellsScan, scan_entry, drain_entry, View, Shape, Room, Claims, no_rooms, AreBorn, list_content, groups_in, Core, IsPlaceOfShape, shape_of, with_drained, with_taken, with_given, IsTaken, IsCounted, drained_after, last_entry, Gains, Knows, with_kept, IsOpened, IsRoomReady, IsUntouched, WasMet, entry_made, Acts, LackedRoom, HadRoom, ScansPlace, eqb-true, RefusesClosed, EmptiesOne, LeavesOne, IsScanClosed, ScanIsWorn, ScanLacks}
+use Rattle.shr_node.proofs.Common.{◌≡◌, ℕ, ◌<◌, ◌≤◌, Bool, false, List, [], ◌∷◌, ◌++◌, length, inl, inr, sym, refl, ap, subst, ◌∙◌, arith, true, MatchBool, ◌==◌, Some, Object, Policy, Place, Serial, Entry, place_number, IsTree, is_closed, Listed, Takes, RefusesWorn, LacksMemory, TellsScan, scan_entry, drain_entry, View, Shape, Room, Claims, no_rooms, AreBorn, list_content, groups_in, Core, Seated, IsPlaceOfShape, shape_of, view_of, with_drained, with_taken, with_given, IsTaken, IsCounted, drained_after, last_entry, Gains, Knows, with_kept, IsOpened, IsRoomReady, IsUntouched, WasMet, entry_made, Acts, LackedRoom, HadRoom, ScansPlace, eqb-true, RefusesClosed, EmptiesOne, LeavesOne, IsScanClosed, ScanIsWorn, ScanLacks}
 use Rattle.shr_core.proofs.Births.{freed_born}
 use Rattle.shr_node.proofs.Gaining.{gains_drained, gains_given, known_given, drained_kept, drained_given}
 use Rattle.shr_node.proofs.Marking.{unmoved}
@@ -25,11 +25,15 @@ pub own_taken : (core : Core) (v w : View) (place : Place) (room : Room) → v.h
     → IsTaken (shape_of core) v (place_number place) (list_content room.list) → IsOwnTaken (shape_of core) v w place room
 own_taken core v w place room none there same taken told = record { tree = core.tree; nodes = core.limits.2; groups = core.limits.4; none = none; there = there; same = same; taken = taken; told = told }
 
--- and so it is after a load that found the list not empty, and moved no mark
-pub still_taken : (core : Core) (v u w : View) (place : Place) (room : Room) (found : Bool) → MatchBool found (u ≡ with_drained v (place_number place)) (u ≡ v) → found ≡ false → v.holding ≡ no_rooms → IsPlaceOfShape (shape_of core) place → room.place ≡ place
-    → w ≡ with_taken u (place_number place) (list_content room.list) → IsTaken (shape_of core) u (place_number place) (list_content room.list) → IsOwnTaken (shape_of core) v w place room
-still_taken core v u w place room found told missed none there same taken is = let k : ℕ = place_number place in let stays : u ≡ v = subst (λ (b : Bool). MatchBool b (u ≡ with_drained v k) (u ≡ v)) missed told in
-    own_taken core v w place room none there same (taken ∙ ap (λ (x : View). with_taken x k (list_content room.list)) stays) (subst (λ (x : View). IsTaken (shape_of core) x k (list_content room.list)) stays is)
+-- a load that found the list not empty left the seat as it was
+pub still_seat : (s t : Seated) (k : ℕ) (found : Bool) → MatchBool found (t ≡ record s { view = with_drained (view_of s) k }) (t ≡ s) → found ≡ false → t ≡ s
+still_seat s t k found told missed = subst (λ (b : Bool). MatchBool b (t ≡ record s { view = with_drained (view_of s) k }) (t ≡ s)) missed told
+
+-- and a room that is taken then is its place's own
+pub still_taken : (s t x : Seated) (place : Place) (room : Room) (found : Bool) → MatchBool found (t ≡ record s { view = with_drained (view_of s) (place_number place) }) (t ≡ s) → found ≡ false → (view_of s).holding ≡ no_rooms → IsPlaceOfShape (shape_of s.core) place → room.place ≡ place
+    → x ≡ record t { view = with_taken (view_of t) (place_number place) (list_content room.list) } → IsTaken (shape_of t.core) (view_of t) (place_number place) (list_content room.list) → IsOwnTaken (shape_of s.core) (view_of s) (view_of x) place room
+still_taken s t x place room found told missed none there same taken is = let k : ℕ = place_number place in let stays = still_seat s t k found told missed in
+    own_taken s.core (view_of s) (view_of x) place room none there same (ap (λ (y : Seated). y.view) taken ∙ ap (λ (y : Seated). with_taken (view_of y) k (list_content room.list)) stays) (subst (λ (y : Seated). IsTaken (shape_of y.core) (view_of y) k (list_content room.list)) stays is)
 
 module _ (shape : Shape) (v w : View) (place : Place) (room : Room) (t : IsOwnTaken shape v w place room) where
   -- an open list is the first open one from its own group up
@@ -148,9 +152,9 @@ none_in [] none = refl
 none_in (x ∷ xs) none = absurd (omega (arith, eqb-true (length (x ∷ xs)) 0 none))
 
 -- a load showed an empty list, whose room stayed where it was
-pub empty_passed : (shape : Shape) (v w : View) (place : Place) {by : Serial} (found : Bool) → MatchBool found (w ≡ with_drained v (place_number place)) (w ≡ v) → found ≡ true → (objects : List Object) → EmptiesOne shape v w place by objects objects
-empty_passed shape v w place found told shown objects = let k : ℕ = place_number place in let is : w ≡ with_drained v k = subst (λ (b : Bool). MatchBool b (w ≡ with_drained v k) (w ≡ v)) shown told in record {
-  drawn = inl (record { gains = subst (λ (x : View). Gains v x [] []) (sym is) (gains_drained v k); objects = refl });
+pub empty_passed : (shape : Shape) (s t : Seated) (place : Place) {by : Serial} (found : Bool) → MatchBool found (t ≡ record s { view = with_drained (view_of s) (place_number place) }) (t ≡ s) → found ≡ true → (objects : List Object) → EmptiesOne shape (view_of s) (view_of t) place by objects objects
+empty_passed shape s t place found told shown objects = let k : ℕ = place_number place in let is = ap (λ (y : Seated). y.view) (subst (λ (b : Bool). MatchBool b (t ≡ record s { view = with_drained (view_of s) k }) (t ≡ s)) shown told) in record {
+  drawn = inl (record { gains = subst (λ (x : View). Gains (view_of s) x [] []) (sym is) (gains_drained (view_of s) k); objects = refl });
   marks = ap (λ (x : View). x.claims.drained) is;
 }
 

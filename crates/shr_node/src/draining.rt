@@ -3,7 +3,7 @@
 ghost use Rattle.std.specs.Prelude.{◌≡◌, ◌==◌, ◌<◌, ◌≤◌, false, length, true, Some};
 ghost use Rattle.shr_core.specs.Parts.{no_rooms};
 ghost use Rattle.shr_model.specs.Items.{is_closed};
-ghost use Rattle.shr_core.specs.Seats.{IsOf, IsPlaceOfShape, view_of, shape_of};
+ghost use Rattle.shr_core.specs.Seats.{IsPlaceOfShape, view_of, shape_of};
 ghost use Rattle.shr_node.specs.Draining.{DrainGives, DrawGives};
 
 use crate::answers::NodeDrain;
@@ -12,7 +12,6 @@ use shr_base::log::Log;
 use shr_base::objects::Object;
 use shr_base::places::{Place, Serial};
 use shr_core::seat::Seat;
-use shr_core::table::Core;
 use shr_list::answers::DrainAnswer;
 use shr_list::list::List;
 use std::sync::Wait;
@@ -45,48 +44,46 @@ fn make_room(into: &mut Log<Object>, list: &List, most_entries: u32) -> bool
 // a splice may have moved the objects on.
 fn drain_one<R: Wait>(
     rt: &R,
-    core: &Core,
-    seat: &mut Seat,
+    seat: &mut Seat<'_>,
     place: Place,
     by: Serial,
     into: &mut Log<Object>,
 ) -> NodeDrain
-    requires seat { IsOf core.now seat.old }
     requires rooms { (view_of seat.old).holding ≡ no_rooms }
     requires owns { (view_of seat.old).claims.owner ≡ Some place.id }
     requires quiet { (view_of seat.old).claims.quiet ≡ true }
-    requires place { IsPlaceOfShape (shape_of core.now) place }
-    ensures seat { IsOf core.now seat.new }
-    ensures answer { DrawGives (shape_of core.now) (view_of seat.old) place by into.old.items
+    requires place { IsPlaceOfShape (shape_of seat.old.core) place }
+    ensures table { seat.new.core ≡ seat.old.core }
+    ensures answer { DrawGives (shape_of seat.old.core) (view_of seat.old) place by into.old.items
         result into.new.items (view_of seat.new) }
 {
-    if core.finds_empty(seat, place) {
+    if seat.finds_empty(place) {
         return NodeDrain::Drained;
     }
-    let mut room = core.take_room(rt, seat, place);
+    let mut room = seat.take_room(rt, place);
     if is_empty(&room.list) {
-        leave(core, seat, room);
+        leave(seat, room);
         return NodeDrain::Drained;
     }
-    let made = make_room(into, &room.list, core.shape().most_entries);
+    let made = make_room(into, &room.list, seat.core().shape().most_entries);
     if !made {
-        leave(core, seat, room);
+        leave(seat, room);
         return NodeDrain::Memory;
     }
     match room.list.drain(by) {
         DrainAnswer::Drained { objects } => {
-            keep(core, seat, room, false);
+            keep(seat, room, false);
             into.append(objects);
             NodeDrain::Drained
         }
         DrainAnswer::Worn { entries, items } => {
-            leave(core, seat, room);
+            leave(seat, room);
             NodeDrain::Worn {
                 spent: list_spent(place, entries, items),
             }
         }
         DrainAnswer::Memory => {
-            leave(core, seat, room);
+            leave(seat, room);
             NodeDrain::Memory
         }
     }
@@ -112,23 +109,21 @@ pub struct NodeLists {
 /// Our own: Linux leaves the objects of a freed shrinker to the cache's owner.
 pub fn drain<R: Wait>(
     rt: &R,
-    core: &Core,
-    seat: &mut Seat,
+    seat: &mut Seat<'_>,
     lists: NodeLists,
     by: Serial,
     into: &mut Log<Object>,
 ) -> NodeDrain
-    requires seat { IsOf core.now seat.old }
     requires rooms { (view_of seat.old).holding ≡ no_rooms }
     requires owns { (view_of seat.old).claims.owner ≡ Some lists.id }
     requires quiet { (view_of seat.old).claims.quiet ≡ true }
-    requires place { (lists.id < (shape_of core.now).ids)
-        × (lists.node < (shape_of core.now).nodes) }
-    ensures seat { IsOf core.now seat.new }
-    ensures answer { DrainGives (shape_of core.now) (view_of seat.old) lists.id lists.node by
+    requires place { (lists.id < (shape_of seat.old.core).ids)
+        × (lists.node < (shape_of seat.old.core).nodes) }
+    ensures table { seat.new.core ≡ seat.old.core }
+    ensures answer { DrainGives (shape_of seat.old.core) (view_of seat.old) lists.id lists.node by
         into.old.items result into.new.items (view_of seat.new) }
 {
-    let mut group = core.shape().parents.len() as u16;
+    let mut group = seat.core().shape().parents.len() as u16;
     'draining: while group > 0 {
         group -= 1;
         let place = Place {
@@ -136,7 +131,7 @@ pub fn drain<R: Wait>(
             node: lists.node,
             group,
         };
-        match drain_one(rt, core, seat, place, by, into) {
+        match drain_one(rt, seat, place, by, into) {
             NodeDrain::Drained => {}
             NodeDrain::Worn { spent } => return NodeDrain::Worn { spent },
             NodeDrain::Memory => return NodeDrain::Memory,

@@ -6,7 +6,7 @@ ghost use Rattle.shr_model.specs.Places.{place_number};
 ghost use Rattle.shr_model.specs.Groups.{parent_of};
 ghost use Rattle.shr_core.specs.Parts.{no_rooms};
 ghost use Rattle.shr_seats.specs.Shapes.{groups_in};
-ghost use Rattle.shr_core.specs.Seats.{IsOf, IsPlaceOfShape, view_of, shape_of};
+ghost use Rattle.shr_core.specs.Seats.{IsPlaceOfShape, view_of, shape_of};
 ghost use Rattle.shr_core.specs.Steps.{in_hand, with_set, with_given, last_entry};
 ghost use Rattle.shr_node.specs.Gains.{with_kept};
 ghost use Rattle.shr_node.specs.Opening.{IsOpened, IsRoomReady, IsUntouched};
@@ -45,46 +45,37 @@ pub(crate) fn list_spent(place: Place, entries: u32, items: u32) -> Spent
 ///
 /// Linux: `list_lru_from_memcg_idx` in mm/list_lru.c. It goes by `kmemcg_id`, which becomes the
 /// parent's when a group goes offline.
-pub(crate) fn open_room<R: Wait>(
-    rt: &R,
-    core: &Core,
-    seat: &mut Seat,
-    id: u16,
-    node: u8,
-    birth: u16,
-) -> Room
-    requires seat { IsOf core.now seat.old }
+pub(crate) fn open_room<R: Wait>(rt: &R, seat: &mut Seat<'_>, id: u16, node: u8, birth: u16) -> Room
     requires rooms { (view_of seat.old).holding ≡ no_rooms }
-    requires place { (id < (shape_of core.now).ids) × (node < (shape_of core.now).nodes)
-        × (birth < groups_in (shape_of core.now)) }
-    ensures seat { IsOf core.now seat.new }
-    ensures opened { IsOpened (shape_of core.now) (view_of seat.old) (view_of seat.new) id node
+    requires place { (id < (shape_of seat.old.core).ids) × (node < (shape_of seat.old.core).nodes)
+        × (birth < groups_in (shape_of seat.old.core)) }
+    ensures table { seat.new.core ≡ seat.old.core }
+    ensures opened { IsOpened (shape_of seat.old.core) (view_of seat.old) (view_of seat.new) id node
         birth result }
 {
     let mut group = birth;
     'climbing: loop {
-        let room = core.take_room(rt, seat, Place { id, node, group });
+        let room = seat.take_room(rt, Place { id, node, group });
         if !room.list.closed() {
             return room;
         }
-        core.give_room(seat, room);
-        group = parent(core, group);
+        seat.give_room(room);
+        group = parent(seat.core(), group);
     }
 }
 
 /// Sets the bit of a place whose list was filled.
 ///
 /// Linux: `set_shrinker_bit` in `list_lru_add` of mm/list_lru.c.
-pub(crate) fn raise(core: &Core, seat: &mut Seat, place: Place, raised: bool)
-    requires seat { IsOf core.now seat.old }
-    requires place { IsPlaceOfShape (shape_of core.now) place }
+pub(crate) fn raise(seat: &mut Seat<'_>, place: Place, raised: bool)
+    requires place { IsPlaceOfShape (shape_of seat.old.core) place }
     requires below_root { raised ≡ true → 0 < place.group }
-    ensures seat { IsOf core.now seat.new }
-    ensures set { view_of seat.new ≡ cond raised (with_set (view_of seat.old) (place_number place))
-        (view_of seat.old) }
+    ensures set { seat.new ≡ record seat.old {
+      view = cond raised (with_set (view_of seat.old) (place_number place)) (view_of seat.old);
+    } }
 {
     if raised {
-        core.set_bit(seat, place);
+        seat.set_bit(place);
     }
 }
 
@@ -93,29 +84,29 @@ pub(crate) fn raise(core: &Core, seat: &mut Seat, place: Place, raised: bool)
 ///
 /// Linux: the end of `list_lru_add` in mm/list_lru.c, which sets the bit when `nr_items` rises from
 /// 0.
-pub(crate) fn keep(core: &Core, seat: &mut Seat, room: Room, was_empty: bool)
-    requires seat { IsOf core.now seat.old }
-    requires ready { IsRoomReady (shape_of core.now) (view_of seat.old) room }
+pub(crate) fn keep(seat: &mut Seat<'_>, room: Room, was_empty: bool)
+    requires ready { IsRoomReady (shape_of seat.old.core) (view_of seat.old) room }
     requires empty { was_empty ≡ (length (in_hand (view_of seat.old)
         (place_number room.place)).items == 0) }
-    ensures seat { IsOf core.now seat.new }
-    ensures kept { view_of seat.new ≡ with_kept (view_of seat.old) (place_number room.place)
-        (last_entry room.list.entries) room.list.items }
+    ensures kept { seat.new ≡ record seat.old {
+      view = with_kept (view_of seat.old) (place_number room.place)
+          (last_entry room.list.entries) room.list.items;
+    } }
 {
-    core.store_count(seat, room.place, &room.list);
+    seat.store_count(room.place, &room.list);
     let raised = was_empty && room.list.len() > 0 && room.place.group > 0;
-    raise(core, seat, room.place, raised);
-    core.give_room(seat, room);
+    raise(seat, room.place, raised);
+    seat.give_room(room);
 }
 
 /// Gives a room back whose list is as it was. Our own.
-pub(crate) fn leave(core: &Core, seat: &mut Seat, room: Room)
-    requires seat { IsOf core.now seat.old }
-    requires untouched { IsUntouched (shape_of core.now) (view_of seat.old) room }
-    ensures seat { IsOf core.now seat.new }
-    ensures left { view_of seat.new ≡ with_given (view_of seat.old) (place_number room.place) }
+pub(crate) fn leave(seat: &mut Seat<'_>, room: Room)
+    requires untouched { IsUntouched (shape_of seat.old.core) (view_of seat.old) room }
+    ensures left { seat.new ≡ record seat.old {
+      view = with_given (view_of seat.old) (place_number room.place);
+    } }
 {
-    core.give_room(seat, room);
+    seat.give_room(room);
 }
 
 /// What a list was before a call acted on it. Our own.
@@ -137,15 +128,14 @@ pub(crate) fn before_call(list: &List) -> Before
 }
 
 /// Gives a room back whose list has one entry more than before, or is as it was. Our own.
-pub(crate) fn give_back(core: &Core, seat: &mut Seat, room: Room, before: Before)
-    requires seat { IsOf core.now seat.old }
-    requires ready { before.entries < length room.list.entries → IsRoomReady (shape_of core.now)
+pub(crate) fn give_back(seat: &mut Seat<'_>, room: Room, before: Before)
+    requires ready { before.entries < length room.list.entries → IsRoomReady (shape_of seat.old.core)
         (view_of seat.old) room }
     requires empty { before.entries < length room.list.entries → before.was_empty
         ≡ (length (in_hand (view_of seat.old) (place_number room.place)).items == 0) }
     requires untouched { length room.list.entries ≤ before.entries → IsUntouched
-        (shape_of core.now) (view_of seat.old) room }
-    ensures seat { IsOf core.now seat.new }
+        (shape_of seat.old.core) (view_of seat.old) room }
+    ensures table { seat.new.core ≡ seat.old.core }
     ensures kept { before.entries < length room.list.entries → view_of seat.new
         ≡ with_kept (view_of seat.old) (place_number room.place) (last_entry room.list.entries)
         room.list.items }
@@ -153,8 +143,8 @@ pub(crate) fn give_back(core: &Core, seat: &mut Seat, room: Room, before: Before
         ≡ with_given (view_of seat.old) (place_number room.place) }
 {
     if room.list.entries().len() > before.entries {
-        keep(core, seat, room, before.was_empty);
+        keep(seat, room, before.was_empty);
     } else {
-        leave(core, seat, room);
+        leave(seat, room);
     }
 }

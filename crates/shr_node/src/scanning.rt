@@ -2,7 +2,7 @@
 
 ghost use Rattle.std.specs.Prelude.{◌≡◌, Some};
 ghost use Rattle.shr_core.specs.Parts.{no_rooms};
-ghost use Rattle.shr_core.specs.Seats.{IsOf, IsPlaceOfShape, view_of, shape_of};
+ghost use Rattle.shr_core.specs.Seats.{IsPlaceOfShape, view_of, shape_of};
 ghost use Rattle.shr_node.specs.Answers.{ScanGives};
 
 use crate::answers::NodeScan;
@@ -10,7 +10,6 @@ use crate::rooms::{before_call, give_back, list_spent};
 use shr_base::objects::Policy;
 use shr_base::places::Place;
 use shr_core::seat::Seat;
-use shr_core::table::Core;
 use shr_list::answers::ListScan;
 use std::sync::Wait;
 
@@ -33,22 +32,15 @@ pub struct ScanRequest {
 /// On every answer but `Scanned` lists, counts and bits are as this seat found them.
 ///
 /// Linux: `list_lru_walk_one` in mm/list_lru.c, which goes on over the parent's list.
-pub fn scan<R: Wait>(
-    rt: &R,
-    core: &Core,
-    seat: &mut Seat,
-    place: Place,
-    request: ScanRequest,
-) -> NodeScan
-    requires seat { IsOf core.now seat.old }
+pub fn scan<R: Wait>(rt: &R, seat: &mut Seat<'_>, place: Place, request: ScanRequest) -> NodeScan
     requires rooms { (view_of seat.old).holding ≡ no_rooms }
     requires holds { (view_of seat.old).claims.held ≡ Some place.id }
-    requires place { IsPlaceOfShape (shape_of core.now) place }
-    ensures seat { IsOf core.now seat.new }
-    ensures answer { ScanGives (shape_of core.now) (view_of seat.old) place request.worker
+    requires place { IsPlaceOfShape (shape_of seat.old.core) place }
+    ensures table { seat.new.core ≡ seat.old.core }
+    ensures answer { ScanGives (shape_of seat.old.core) (view_of seat.old) place request.worker
         request.walk request.policy request.asked result (view_of seat.new) }
 {
-    let mut room = core.take_room(rt, seat, place);
+    let mut room = seat.take_room(rt, place);
     let before = before_call(&room.list);
     let answer = match room.list.scan(request.worker, request.walk, request.policy, request.asked) {
         ListScan::Scanned {
@@ -67,6 +59,6 @@ pub fn scan<R: Wait>(
         },
         ListScan::Memory => NodeScan::Memory,
     };
-    give_back(core, seat, room, before);
+    give_back(seat, room, before);
     answer
 }

@@ -8,7 +8,7 @@ ghost use Rattle.shr_list.specs.Listed.{IsSound};
 ghost use Rattle.shr_core.specs.declared.view.View.{View};
 ghost use Rattle.shr_core.specs.Parts.{no_rooms};
 ghost use Rattle.shr_seats.specs.Shapes.{groups_in};
-ghost use Rattle.shr_core.specs.Seats.{IsOf, IsPlaceOfShape, view_of, shape_of};
+ghost use Rattle.shr_core.specs.Seats.{IsPlaceOfShape, view_of, shape_of};
 ghost use Rattle.shr_node.specs.Gains.{Gains, KnowsClosed};
 ghost use Rattle.shr_node.specs.Splicing.{group_place, SpliceGives};
 ghost use Rattle.shr_node.specs.Closes.{CloseOneGives};
@@ -20,7 +20,6 @@ use crate::rooms::{leave, list_spent, parent, raise};
 use shr_base::places::Place;
 use shr_core::rooms::Room;
 use shr_core::seat::Seat;
-use shr_core::table::Core;
 use shr_list::answers::CloseAnswer;
 use shr_list::list::List;
 use std::sync::Wait;
@@ -29,17 +28,16 @@ use std::sync::Wait;
 const MOST_GROUPS: usize = 256;
 
 // Whether the list of a place is open. Its room is taken and given back.
-fn is_open<R: Wait>(rt: &R, core: &Core, seat: &mut Seat, place: Place) -> bool
-    requires seat { IsOf core.now seat.old }
+fn is_open<R: Wait>(rt: &R, seat: &mut Seat<'_>, place: Place) -> bool
     requires rooms { (view_of seat.old).holding ≡ no_rooms }
-    requires place { IsPlaceOfShape (shape_of core.now) place }
-    ensures seat { IsOf core.now seat.new }
+    requires place { IsPlaceOfShape (shape_of seat.old.core) place }
+    ensures table { seat.new.core ≡ seat.old.core }
     ensures gains { Gains (view_of seat.old) (view_of seat.new) [] [] }
     ensures closed { result ≡ false → KnowsClosed (view_of seat.new) (place_number place) }
 {
-    let room = core.take_room(rt, seat, place);
+    let room = seat.take_room(rt, place);
     let opens = !room.list.closed();
-    leave(core, seat, room);
+    leave(seat, room);
     opens
 }
 
@@ -47,23 +45,21 @@ fn is_open<R: Wait>(rt: &R, core: &Core, seat: &mut Seat, place: Place) -> bool
 // open. What is below a closed list is closed and isn't looked at.
 fn open_lists<R: Wait>(
     rt: &R,
-    core: &Core,
-    seat: &mut Seat,
+    seat: &mut Seat<'_>,
     id: u16,
     node: u8,
     group: u16,
 ) -> [bool; MOST_GROUPS]
-    requires seat { IsOf core.now seat.old }
     requires rooms { (view_of seat.old).holding ≡ no_rooms }
-    requires place { (id < (shape_of core.now).ids) × (node < (shape_of core.now).nodes) }
-    requires group { group < groups_in (shape_of core.now) }
-    ensures seat { IsOf core.now seat.new }
+    requires place { (id < (shape_of seat.old.core).ids) × (node < (shape_of seat.old.core).nodes) }
+    requires group { group < groups_in (shape_of seat.old.core) }
+    ensures table { seat.new.core ≡ seat.old.core }
     ensures gains { Gains (view_of seat.old) (view_of seat.new) [] [] }
-    ensures looked { AreLooked (shape_of core.now) (view_of seat.new) id node group result
-        (groups_in (shape_of core.now)) }
+    ensures looked { AreLooked (shape_of seat.old.core) (view_of seat.new) id node group result
+        (groups_in (shape_of seat.old.core)) }
     ensures own { slice_index_or result group false ≡ true }
 {
-    let parents = core.shape().parents.as_slice();
+    let parents = seat.core().shape().parents.as_slice();
     let mut opens = [false; MOST_GROUPS];
     opens[group as usize] = true;
     // A parent has a lower number than its children, so its list is looked at before theirs.
@@ -76,7 +72,7 @@ fn open_lists<R: Wait>(
             node,
             group: at as u16,
         };
-        opens[at] = is_open(rt, core, seat, place);
+        opens[at] = is_open(rt, seat, place);
     }
     opens
 }
@@ -99,15 +95,13 @@ fn is_filled(objects: u32, place: Place) -> bool
 }
 
 // Gives a child's room and its parent's back, whose lists are as they were.
-fn leave_both(core: &Core, seat: &mut Seat, child: Room, above: Room)
-    requires seat { IsOf core.now seat.old }
-    requires untouched { (before : View) × AreBothTaken (shape_of core.now) before (view_of seat.old)
+fn leave_both(seat: &mut Seat<'_>, child: Room, above: Room)
+    requires untouched { (before : View) × AreBothTaken (shape_of seat.old.core) before (view_of seat.old)
         child.place above.place child.list above.list }
-    ensures seat { IsOf core.now seat.new }
-    ensures left { view_of seat.new ≡ with_both_left (view_of seat.old) child above }
+    ensures left { seat.new ≡ record seat.old { view = with_both_left (view_of seat.old) child above } }
 {
-    core.give_room(seat, above);
-    core.give_room(seat, child);
+    seat.give_room(above);
+    seat.give_room(child);
 }
 
 /// Closes the list of one group into its parent's: the child's objects stand before the head of
@@ -120,53 +114,45 @@ fn leave_both(core: &Core, seat: &mut Seat, child: Room, above: Room)
 /// all bits are as before.
 ///
 /// Linux: `memcg_reparent_list_lru_one` in mm/list_lru.c, which cannot fail.
-pub fn close_one<R: Wait>(
-    rt: &R,
-    core: &Core,
-    seat: &mut Seat,
-    id: u16,
-    node: u8,
-    group: u16,
-) -> OneClose
-    requires seat { IsOf core.now seat.old }
+pub fn close_one<R: Wait>(rt: &R, seat: &mut Seat<'_>, id: u16, node: u8, group: u16) -> OneClose
     requires rooms { (view_of seat.old).holding ≡ no_rooms }
-    requires place { (id < (shape_of core.now).ids) × (node < (shape_of core.now).nodes) }
-    requires group { (0 < group) × (group < groups_in (shape_of core.now)) }
-    requires children { (child : ℕ) → is_child (shape_of core.now).parents.items group child ≡ true
+    requires place { (id < (shape_of seat.old.core).ids) × (node < (shape_of seat.old.core).nodes) }
+    requires group { (0 < group) × (group < groups_in (shape_of seat.old.core)) }
+    requires children { (child : ℕ) → is_child (shape_of seat.old.core).parents.items group child ≡ true
         → KnowsClosed (view_of seat.old) (place_number (group_place id node child)) }
-    ensures seat { IsOf core.now seat.new }
-    ensures answer { CloseOneGives (shape_of core.now) (view_of seat.old) id node group result
+    ensures table { seat.new.core ≡ seat.old.core }
+    ensures answer { CloseOneGives (shape_of seat.old.core) (view_of seat.old) id node group result
         (view_of seat.new) }
 {
-    let mut child = core.take_room(rt, seat, Place { id, node, group });
+    let mut child = seat.take_room(rt, Place { id, node, group });
     if is_closed_list(&child.list) {
-        leave(core, seat, child);
+        leave(seat, child);
         return OneClose::WasClosed;
     }
     let place = Place {
         id,
         node,
-        group: parent(core, group),
+        group: parent(seat.core(), group),
     };
-    let mut above = core.take_room(rt, seat, place);
+    let mut above = seat.take_room(rt, place);
     match child.list.close_into(&mut above.list, group) {
         CloseAnswer::Moved { objects } => {
             let filled = is_filled(objects, place);
-            core.store_count(seat, above.place, &above.list);
-            core.store_count(seat, child.place, &child.list);
-            raise(core, seat, above.place, filled);
-            core.give_room(seat, above);
-            core.give_room(seat, child);
+            seat.store_count(above.place, &above.list);
+            seat.store_count(child.place, &child.list);
+            raise(seat, above.place, filled);
+            seat.give_room(above);
+            seat.give_room(child);
             OneClose::Closed { objects }
         }
         CloseAnswer::Worn { entries, items } => {
-            leave_both(core, seat, child, above);
+            leave_both(seat, child, above);
             OneClose::Worn {
                 spent: list_spent(place, entries, items),
             }
         }
         CloseAnswer::Memory => {
-            leave_both(core, seat, child, above);
+            leave_both(seat, child, above);
             OneClose::Memory
         }
     }
@@ -184,32 +170,24 @@ pub fn close_one<R: Wait>(
 ///
 /// Linux: `memcg_reparent_list_lru_node` in mm/list_lru.c for one group. Its children went offline
 /// before it, so there no order of groups is needed.
-pub fn splice<R: Wait>(
-    rt: &R,
-    core: &Core,
-    seat: &mut Seat,
-    id: u16,
-    node: u8,
-    group: u16,
-) -> SpliceAnswer
-    requires seat { IsOf core.now seat.old }
+pub fn splice<R: Wait>(rt: &R, seat: &mut Seat<'_>, id: u16, node: u8, group: u16) -> SpliceAnswer
     requires rooms { (view_of seat.old).holding ≡ no_rooms }
-    requires place { (id < (shape_of core.now).ids) × (node < (shape_of core.now).nodes) }
-    requires group { (0 < group) × (group < groups_in (shape_of core.now)) }
-    ensures seat { IsOf core.now seat.new }
-    ensures answer { SpliceGives (shape_of core.now) (view_of seat.old) id node group result
+    requires place { (id < (shape_of seat.old.core).ids) × (node < (shape_of seat.old.core).nodes) }
+    requires group { (0 < group) × (group < groups_in (shape_of seat.old.core)) }
+    ensures table { seat.new.core ≡ seat.old.core }
+    ensures answer { SpliceGives (shape_of seat.old.core) (view_of seat.old) id node group result
         (view_of seat.new) }
 {
-    let opens = open_lists(rt, core, seat, id, node, group);
+    let opens = open_lists(rt, seat, id, node, group);
     let mut moved = 0;
-    let mut at = core.shape().parents.len() as u16;
+    let mut at = seat.core().shape().parents.len() as u16;
     'splicing: while at > group {
         at -= 1;
         if !opens[at as usize] {
             continue;
         }
         // The group itself comes last, so that `moved` is left with what its own list gave.
-        match close_one(rt, core, seat, id, node, at) {
+        match close_one(rt, seat, id, node, at) {
             OneClose::Closed { objects } => moved = objects as u64,
             OneClose::WasClosed => moved = 0,
             OneClose::Worn { spent } => return SpliceAnswer::Worn { spent },

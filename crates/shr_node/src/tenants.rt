@@ -6,7 +6,7 @@
 ghost use Rattle.std.specs.Prelude.{◌≡◌, ◌<◌, Some};
 ghost use Rattle.shr_core.specs.Parts.{no_rooms};
 ghost use Rattle.shr_seats.specs.Shapes.{groups_in};
-ghost use Rattle.shr_core.specs.Seats.{IsOf, view_of, shape_of};
+ghost use Rattle.shr_core.specs.Seats.{view_of, shape_of};
 ghost use Rattle.shr_node.specs.Answers.{AddGives, LookGives, DropGives, PinGives};
 
 use crate::answers::{NodeAdd, NodeDrop, NodeLook, NodePin};
@@ -15,7 +15,6 @@ use shr_base::objects::Object;
 use shr_base::places::{At, Serial};
 use shr_base::text::Text;
 use shr_core::seat::Seat;
-use shr_core::table::Core;
 use shr_list::answers::{AddAnswer, DropAnswer, LookAnswer, PinAnswer};
 use std::sync::Wait;
 
@@ -37,24 +36,16 @@ pub struct TenantCall {
 ///
 /// Linux: `list_lru_add` in mm/list_lru.c, which sets the bit of the group that it was handed, even
 /// when the object goes to the list of a group above.
-pub fn add<R: Wait>(
-    rt: &R,
-    core: &Core,
-    seat: &mut Seat,
-    id: u16,
-    node: u8,
-    object: Object,
-) -> NodeAdd
-    requires seat { IsOf core.now seat.old }
+pub fn add<R: Wait>(rt: &R, seat: &mut Seat<'_>, id: u16, node: u8, object: Object) -> NodeAdd
     requires rooms { (view_of seat.old).holding ≡ no_rooms }
     requires holds { (view_of seat.old).claims.held ≡ Some id }
-    requires place { (id < (shape_of core.now).ids) × (node < (shape_of core.now).nodes)
-        × (object.birth < groups_in (shape_of core.now)) }
-    ensures seat { IsOf core.now seat.new }
-    ensures answer { AddGives (shape_of core.now) (view_of seat.old) id node object result
+    requires place { (id < (shape_of seat.old.core).ids) × (node < (shape_of seat.old.core).nodes)
+        × (object.birth < groups_in (shape_of seat.old.core)) }
+    ensures table { seat.new.core ≡ seat.old.core }
+    ensures answer { AddGives (shape_of seat.old.core) (view_of seat.old) id node object result
         (view_of seat.new) }
 {
-    let mut room = open_room(rt, core, seat, id, node, object.birth);
+    let mut room = open_room(rt, seat, id, node, object.birth);
     let place = room.place;
     let before = before_call(&room.list);
     let answer = match room.list.add(object) {
@@ -70,7 +61,7 @@ pub fn add<R: Wait>(
         },
         AddAnswer::Memory { object: _ } => NodeAdd::Memory,
     };
-    give_back(core, seat, room, before);
+    give_back(seat, room, before);
     answer
 }
 
@@ -78,17 +69,16 @@ pub fn add<R: Wait>(
 /// hand. On `Worn` and `Memory` lists, counts and bits are as this seat found them.
 ///
 /// Our own: Linux's lists have no keys.
-pub fn look<R: Wait>(rt: &R, core: &Core, seat: &mut Seat, call: TenantCall, key: &Text) -> NodeLook
-    requires seat { IsOf core.now seat.old }
+pub fn look<R: Wait>(rt: &R, seat: &mut Seat<'_>, call: TenantCall, key: &Text) -> NodeLook
     requires rooms { (view_of seat.old).holding ≡ no_rooms }
     requires holds { (view_of seat.old).claims.held ≡ Some call.id }
-    requires place { (call.id < (shape_of core.now).ids) × (call.node < (shape_of core.now).nodes)
-        × (call.birth < groups_in (shape_of core.now)) }
-    ensures seat { IsOf core.now seat.new }
-    ensures answer { LookGives (shape_of core.now) (view_of seat.old) call.id call.node
+    requires place { (call.id < (shape_of seat.old.core).ids) × (call.node < (shape_of seat.old.core).nodes)
+        × (call.birth < groups_in (shape_of seat.old.core)) }
+    ensures table { seat.new.core ≡ seat.old.core }
+    ensures answer { LookGives (shape_of seat.old.core) (view_of seat.old) call.id call.node
         call.by call.birth key.now result (view_of seat.new) }
 {
-    let mut room = open_room(rt, core, seat, call.id, call.node, call.birth);
+    let mut room = open_room(rt, seat, call.id, call.node, call.birth);
     let place = room.place;
     let before = before_call(&room.list);
     let answer = match room.list.look(call.by, call.birth, key) {
@@ -105,7 +95,7 @@ pub fn look<R: Wait>(rt: &R, core: &Core, seat: &mut Seat, call: TenantCall, key
         },
         LookAnswer::Memory => NodeLook::Memory,
     };
-    give_back(core, seat, room, before);
+    give_back(seat, room, before);
     answer
 }
 
@@ -113,23 +103,16 @@ pub fn look<R: Wait>(rt: &R, core: &Core, seat: &mut Seat, call: TenantCall, key
 /// hand. On `Worn` and `Memory` lists, counts and bits are as this seat found them.
 ///
 /// Linux: `list_lru_del` in mm/list_lru.c, which is handed the object and knows no pin.
-pub fn drop_key<R: Wait>(
-    rt: &R,
-    core: &Core,
-    seat: &mut Seat,
-    call: TenantCall,
-    key: &Text,
-) -> NodeDrop
-    requires seat { IsOf core.now seat.old }
+pub fn drop_key<R: Wait>(rt: &R, seat: &mut Seat<'_>, call: TenantCall, key: &Text) -> NodeDrop
     requires rooms { (view_of seat.old).holding ≡ no_rooms }
     requires holds { (view_of seat.old).claims.held ≡ Some call.id }
-    requires place { (call.id < (shape_of core.now).ids) × (call.node < (shape_of core.now).nodes)
-        × (call.birth < groups_in (shape_of core.now)) }
-    ensures seat { IsOf core.now seat.new }
-    ensures answer { DropGives (shape_of core.now) (view_of seat.old) call.id call.node
+    requires place { (call.id < (shape_of seat.old.core).ids) × (call.node < (shape_of seat.old.core).nodes)
+        × (call.birth < groups_in (shape_of seat.old.core)) }
+    ensures table { seat.new.core ≡ seat.old.core }
+    ensures answer { DropGives (shape_of seat.old.core) (view_of seat.old) call.id call.node
         call.by call.birth key.now result (view_of seat.new) }
 {
-    let mut room = open_room(rt, core, seat, call.id, call.node, call.birth);
+    let mut room = open_room(rt, seat, call.id, call.node, call.birth);
     let place = room.place;
     let before = before_call(&room.list);
     let answer = match room.list.drop_key(call.by, call.birth, key) {
@@ -148,7 +131,7 @@ pub fn drop_key<R: Wait>(
         },
         DropAnswer::Memory => NodeDrop::Memory,
     };
-    give_back(core, seat, room, before);
+    give_back(seat, room, before);
     answer
 }
 
@@ -158,22 +141,20 @@ pub fn drop_key<R: Wait>(
 /// Our own: a pin stands for a raised reference count.
 pub fn set_pin<R: Wait>(
     rt: &R,
-    core: &Core,
-    seat: &mut Seat,
+    seat: &mut Seat<'_>,
     call: TenantCall,
     key: &Text,
     pinned: bool,
 ) -> NodePin
-    requires seat { IsOf core.now seat.old }
     requires rooms { (view_of seat.old).holding ≡ no_rooms }
     requires holds { (view_of seat.old).claims.held ≡ Some call.id }
-    requires place { (call.id < (shape_of core.now).ids) × (call.node < (shape_of core.now).nodes)
-        × (call.birth < groups_in (shape_of core.now)) }
-    ensures seat { IsOf core.now seat.new }
-    ensures answer { PinGives (shape_of core.now) (view_of seat.old) call.id call.node
+    requires place { (call.id < (shape_of seat.old.core).ids) × (call.node < (shape_of seat.old.core).nodes)
+        × (call.birth < groups_in (shape_of seat.old.core)) }
+    ensures table { seat.new.core ≡ seat.old.core }
+    ensures answer { PinGives (shape_of seat.old.core) (view_of seat.old) call.id call.node
         call.by call.birth key.now pinned result (view_of seat.new) }
 {
-    let mut room = open_room(rt, core, seat, call.id, call.node, call.birth);
+    let mut room = open_room(rt, seat, call.id, call.node, call.birth);
     let place = room.place;
     let before = before_call(&room.list);
     let answer = match room.list.set_pin(call.by, call.birth, key, pinned) {
@@ -189,6 +170,6 @@ pub fn set_pin<R: Wait>(
         },
         PinAnswer::Memory => NodePin::Memory,
     };
-    give_back(core, seat, room, before);
+    give_back(seat, room, before);
     answer
 }

@@ -1,5 +1,5 @@
 -- Carries one after another.
-use Rattle.shr_offline.proofs.Common.{◌≡◌, ℕ, ◌+◌, ◌%◌, List, [], ◌∷◌, ◌++◌, refl, sym, ap, ◌∙◌, arith, subst, map-range_with_len_more, Place, Serial, Carry, Shape, DeferredSeat, GainsMoves, first_places, place_by_number, AreCarried, carry_move, carries_noted, ◌^◌, map, append_assoc, sum, above_of, carry_moves, carry_noted, amount_taken}
+use Rattle.shr_offline.proofs.Common.{◌≡◌, ℕ, ◌+◌, ◌%◌, List, [], ◌∷◌, ◌++◌, refl, sym, ap, ◌∙◌, arith, subst, map-range_with_len_more, Place, Serial, Carry, Shape, DeferredSeated, GainsMoves, first_places, place_by_number, AreCarried, carry_move, carries_noted, ◌^◌, map, append_assoc, sum, above_of, carry_moves, carry_noted, amount_taken}
 use Rattle.std.proofs.lemmas.List.{append-nil, map_push}
 use Rattle.std.proofs.lemmas.Grind.{flat_map-append}
 use Rattle.shr_base.specs.declared.ends.PlaceAmount.{PlaceAmount}
@@ -17,7 +17,7 @@ moves_push shape [] a = both_none (carry_move (above_of shape a.place) a)
 moves_push shape (b ∷ bs) a = ap (both (carry_move (above_of shape b.place) b)) (moves_push shape bs a) ∙ sym (moves_assoc (carry_move (above_of shape b.place) b) (carry_moves shape bs) (carry_move (above_of shape a.place) a))
 
 -- nothing was carried yet
-pub carried_none : (shape : Shape) (by : Serial) (group : ℕ) (s : DeferredSeat) (noted : List Carry) → AreCarried shape by group 0 0 s s noted noted
+pub carried_none : (shape : Shape) (by : Serial) (group : ℕ) (s : DeferredSeated) (noted : List Carry) → AreCarried shape by group 0 0 s s noted noted
 carried_none shape by group s noted = record {
   amounts = [];
   places = refl;
@@ -27,7 +27,7 @@ carried_none shape by group s noted = record {
 }
 
 -- one place more
-pub carried_more : (shape : Shape) (by : Serial) (group n total amount : ℕ) (old mid new : DeferredSeat) (before between after : List Carry) (a : PlaceAmount) → a.amount ≡ amount → a.place ≡ place_by_number shape group n
+pub carried_more : (shape : Shape) (by : Serial) (group n total amount : ℕ) (old mid new : DeferredSeated) (before between after : List Carry) (a : PlaceAmount) → a.amount ≡ amount → a.place ≡ place_by_number shape group n
     → AreCarried shape by group n total old mid before between → GainsMoves mid new (carry_move (above_of shape a.place) a) → after ≡ between ++ carries_noted by (a ∷ [])
     → AreCarried shape by group (n + 1) ((total + amount) % 2 ^ 64) old new before after
 carried_more shape by group n total amount old mid new before between after a is here c gains noted = record {

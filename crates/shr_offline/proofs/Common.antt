@@ -10,7 +10,7 @@ pub use Rattle.shr_core.specs.Gained.{IsIdle, OwesNoMore}
 pub use Rattle.shr_core.specs.Parts.{Claims, Known, no_rooms}
 pub use Rattle.shr_core.specs.Seats.{shape_of, view_of}
 pub use Rattle.shr_core.specs.declared.view.View.{View}
-pub use Rattle.shr_deferred.specs.Seat.{DeferredSeat, GainsMoves, IsDeferredSeat}
+pub use Rattle.shr_deferred.specs.Seat.{DeferredSeated, GainsMoves}
 pub use Rattle.shr_node.specs.Splicing.{Closing, IsClosing, IsSpliced, moved_from_group, group_place}
 pub use Rattle.shr_node.specs.declared.answers.SpliceAnswer.{SpliceAnswer}
 pub use Rattle.shr_seats.specs.declared.shape.Shape.{Shape}

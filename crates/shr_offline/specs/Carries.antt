@@ -7,7 +7,7 @@ use Rattle.shr_base.specs.declared.walks.Carry.{Carry}
 use Rattle.shr_model.specs.Deferred.{amount_of}
 use Rattle.shr_model.specs.Groups.{parent_of}
 use Rattle.shr_seats.specs.declared.shape.Shape.{Shape}
-use Rattle.shr_deferred.specs.Seat.{DeferredSeat, GainsMoves}
+use Rattle.shr_deferred.specs.Seat.{DeferredSeated, GainsMoves}
 use Rattle.shr_deferred.specs.Moves.{Moves, took, gave, both, no_moves}
 use Rattle.shr_offline.specs.Splices.{first_places}
 
@@ -42,7 +42,7 @@ amount_taken a = a.amount
 
 -- One take at each of the group's first places, in order; each amount above 0 was given to the
 -- place above, and noted.
-pub record AreCarried (shape : Shape) (by : Serial) (group n total : ℕ) (old new : DeferredSeat) (before after : List Carry) : Type 0 where
+pub record AreCarried (shape : Shape) (by : Serial) (group n total : ℕ) (old new : DeferredSeated) (before after : List Carry) : Type 0 where
   pub amounts : List PlaceAmount
   pub places : map amount_place amounts ≡ first_places shape group n
   pub moved : GainsMoves old new (carry_moves shape amounts)

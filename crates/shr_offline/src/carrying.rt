@@ -4,7 +4,7 @@ ghost use Rattle.std.specs.Prelude.{◌≡◌, ◌+◌, ◌<◌, ◌≤◌, [], 
 ghost use Rattle.shr_seats.specs.Shapes.{groups_in};
 ghost use Rattle.shr_core.specs.Seats.{shape_of};
 ghost use Rattle.shr_seats.specs.Rows.{IsPlaceOf};
-ghost use Rattle.shr_deferred.specs.Seat as deferreds;
+ghost use Rattle.shr_deferred.specs.Seat.{GainsMoves};
 ghost use Rattle.shr_walk.specs.Sharing.{IsShared};
 ghost use Rattle.shr_offline.specs.Splices.{count_of_places};
 ghost use Rattle.shr_offline.specs.Carries.{carry_move, carries_noted, AreCarried};
@@ -12,33 +12,30 @@ ghost use Rattle.shr_offline.specs.Carries.{carry_move, carries_noted, AreCarrie
 use shr_base::log::Log;
 use shr_base::places::{Place, Serial};
 use shr_base::walks::Carry;
-use shr_deferred::{Deferred, DeferredSeat};
+use shr_deferred::DeferredSeat;
 use shr_walk::seats::Shared;
 
 // Takes what is deferred at a place, gives what is above 0 to the place of the parent group, and
 // notes it.
 fn carry(
-    deferred: &Deferred,
-    seat: &mut DeferredSeat,
+    seat: &mut DeferredSeat<'_>,
     carries: &mut Log<Carry>,
     by: Serial,
     place: Place,
     above: Place,
 ) -> u64
-    requires seat { deferreds.IsDeferredSeat deferred.now seat.old }
-    requires place { IsPlaceOf deferred.now.sizes place }
-    requires above { IsPlaceOf deferred.now.sizes above }
+    requires place { IsPlaceOf seat.old.deferred.sizes place }
+    requires above { IsPlaceOf seat.old.deferred.sizes above }
     requires spare { 0 < carries.old.spare }
-    ensures seat { deferreds.IsDeferredSeat deferred.now seat.new }
-    ensures gains { deferreds.GainsMoves seat.old seat.new
+    ensures gains { GainsMoves seat.old seat.new
         (carry_move above (record { place = place; amount = result })) }
     ensures noted { carries.new.items ≡ carries.old.items ++ carries_noted by
         (record { place = place; amount = result } ∷ []) }
     ensures spare { carries.old.spare ≤ carries.new.spare + 1 }
 {
-    let amount = deferred.take(seat, place);
+    let amount = seat.take(place);
     if amount > 0 {
-        deferred.give(seat, above, amount);
+        seat.give(above, amount);
         carries.push(Carry { by, place, amount });
     }
     amount
@@ -50,16 +47,15 @@ fn carry(
 /// them.
 pub(crate) fn carry_all(
     shared: &Shared,
-    seat: &mut DeferredSeat,
+    seat: &mut DeferredSeat<'_>,
     carries: &mut Log<Carry>,
     by: Serial,
     group: u16,
 ) -> u64
     requires shared { IsShared shared.now }
-    requires seat { deferreds.IsDeferredSeat shared.now.deferred seat.old }
+    requires table { seat.old.deferred ≡ shared.now.deferred }
     requires group { group < groups_in (shape_of shared.now.core) }
     requires spare { count_of_places (shape_of shared.now.core) ≤ carries.old.spare }
-    ensures seat { deferreds.IsDeferredSeat shared.now.deferred seat.new }
     ensures carried { AreCarried (shape_of shared.now.core) by group
         (count_of_places (shape_of shared.now.core)) result seat.old seat.new carries.old.items
         carries.new.items }
@@ -77,7 +73,7 @@ pub(crate) fn carry_all(
             node,
             group: parent,
         };
-        sum = sum.wrapping_add(carry(&shared.deferred, seat, carries, by, place, above));
+        sum = sum.wrapping_add(carry(seat, carries, by, place, above));
     }
     sum
 }

@@ -25,8 +25,7 @@ fn hand_over<R: Wait>(worker: &mut Worker<'_, R>, group: u16) -> OfflineAnswer
         worker.new.state }
     ensures same { IsSame worker.old worker.new }
 {
-    let core = &worker.shared.core;
-    let moved = match splice_all(worker.rt, core, &mut worker.seats.cache.core, group) {
+    let moved = match splice_all(worker.rt, &mut worker.seats.cache.core, group) {
         SpliceAnswer::Spliced { moved } => moved,
         SpliceAnswer::Worn { spent } => return OfflineAnswer::Worn { spent },
         SpliceAnswer::Memory => return OfflineAnswer::Memory,
@@ -39,11 +38,7 @@ fn hand_over<R: Wait>(worker: &mut Worker<'_, R>, group: u16) -> OfflineAnswer
         worker.by,
         group,
     );
-    match worker
-        .shared
-        .charge
-        .done_offline(worker.rt, &mut seats.cache.charge, group)
-    {
+    match seats.cache.charge.done_offline(worker.rt, group) {
         DoneAnswer::Done { entry } => OfflineAnswer::Done {
             entry,
             moved,
@@ -76,11 +71,7 @@ pub fn offline<R: Wait>(worker: &mut Worker<'_, R>, group: u16) -> OfflineAnswer
     if worker.seats.carries.reserve(places).is_err() {
         return OfflineAnswer::Memory;
     }
-    match worker
-        .shared
-        .charge
-        .begin_offline(worker.rt, &mut worker.seats.cache.charge, group)
-    {
+    match worker.seats.cache.charge.begin_offline(worker.rt, group) {
         BeginAnswer::Root => OfflineAnswer::Root,
         BeginAnswer::AlreadyDone { entry } => OfflineAnswer::AlreadyDone { entry },
         BeginAnswer::NotMade { group } => OfflineAnswer::NotMade { group },

@@ -14,17 +14,14 @@ use Rattle.shr_core.specs.Parts.{no_rooms}
 use Rattle.shr_seats.specs.Shapes.{groups_in, hierarchy_of}
 use Rattle.shr_seats.specs.declared.shape.Shape.{Shape}
 use Rattle.shr_core.specs.Seats.{view_of, shape_of}
-use Rattle.shr_core.specs.Seats as core
 use Rattle.shr_core.specs.Steps.{with_put}
 use Rattle.shr_charge.specs.Charging.{AreDowns, AreRising, calls_with}
 use Rattle.shr_charge.specs.Seat.{spent_by}
-use Rattle.shr_charge.specs.Seat as charge
 use Rattle.shr_charge.specs.Steps.{with_load}
 use Rattle.shr_charge.specs.declared.answers.GroupState.{GroupState}
 use Rattle.shr_charge.specs.declared.answers.GroupState.TheVariants.{Online, Offline, NotMade}
 use Rattle.shr_charge.specs.Told.{Shows}
 use Rattle.shr_charge.specs.Views.{both_uses}
-use Rattle.shr_deferred.specs.Seat as deferred
 use Rattle.shr_registry.specs.declared.answers.FindAnswer.{FindAnswer}
 use Rattle.shr_registry.specs.declared.answers.FindAnswer.TheVariants as find
 use Rattle.shr_registry.specs.Answers.{FindGives, IsDatedBy}
@@ -114,14 +111,14 @@ RefusedAs x group decl r s t = ⊥
 
 -- the seats are of the tables, have no room in hand and owe nothing, and this id is held
 pub record AreHolding (x : Shared) (id : ℕ) (s : Seats) : Type 0 where
-  pub core : core.IsOf x.core s.cache.core
+  pub core : s.cache.core.core ≡ x.core
   pub near : id < (shape_of x.core).ids
   pub rooms : (view_of s.cache.core).holding ≡ no_rooms
   pub held : (view_of s.cache.core).claims.held ≡ Some id
   pub owner : (view_of s.cache.core).claims.owner ≡ None
   pub owed : (view_of s.cache.core).marks.owed ≡ []
-  pub charge : charge.IsChargeSeat x.charge s.cache.charge
-  pub deferred : deferred.IsDeferredSeat x.deferred s.deferred
+  pub charge : s.cache.charge.charge ≡ x.charge
+  pub deferred : s.deferred.deferred ≡ x.deferred
 
 -- nothing was charged or noted
 pub record IsSameCharge (s t : Seats) : Type 0 where

@@ -27,7 +27,7 @@ pub enum Opened {
 /// Finds the cache of a declaration, whose id is held then. It refuses if the declaration is not
 /// registered and if the lookups of its id are worn out. Our own: in Linux the caller has the
 /// cache, and `shrinker_try_get` of include/linux/shrinker.h holds it.
-pub fn find_cache<R: Wait>(rt: &R, shared: &Shared, seats: &mut Seats, decl: u8) -> Opened
+pub fn find_cache<R: Wait>(rt: &R, shared: &Shared, seats: &mut Seats<'_>, decl: u8) -> Opened
     requires shared { IsShared shared.now }
     requires decl { decl < (shape_of shared.now.core).decls }
     requires rested { IsRested shared.now seats.old }
@@ -35,7 +35,7 @@ pub fn find_cache<R: Wait>(rt: &R, shared: &Shared, seats: &mut Seats, decl: u8)
     ensures found { FindsAs shared.now decl result (state_of seats.old) (state_of seats.new) }
     ensures same { IsSameCharge seats.old seats.new }
 {
-    match find(rt, &shared.core, &mut seats.cache.core, decl) {
+    match find(rt, &mut seats.cache.core, decl) {
         FindAnswer::Held { id, number, entry } => Opened::Held {
             found: Found { id, number, entry },
         },
@@ -50,7 +50,7 @@ pub fn find_cache<R: Wait>(rt: &R, shared: &Shared, seats: &mut Seats, decl: u8)
 
 /// Loads the word of the group, and finds the cache if the group is online; it refuses if the
 /// group is offline or isn't made. Our own.
-pub fn open<R: Wait>(rt: &R, shared: &Shared, seats: &mut Seats, group: u16, decl: u8) -> Opened
+pub fn open<R: Wait>(rt: &R, shared: &Shared, seats: &mut Seats<'_>, group: u16, decl: u8) -> Opened
     requires shared { IsShared shared.now }
     requires cache { (group < groups_in (shape_of shared.now.core))
         × (decl < (shape_of shared.now.core).decls) }
@@ -61,7 +61,7 @@ pub fn open<R: Wait>(rt: &R, shared: &Shared, seats: &mut Seats, group: u16, dec
     ensures uses { uses_of seats.new.cache.charge ≡ uses_of seats.old.cache.charge }
     ensures notes { seats.new.cache.uses ≡ seats.old.cache.uses }
 {
-    match shared.charge.state(&mut seats.cache.charge, group) {
+    match seats.cache.charge.state(group) {
         GroupState::Online => find_cache(rt, shared, seats, decl),
         GroupState::Offline { entry } => Opened::Refused {
             reply: Reply::Offline { entry },

@@ -3,7 +3,7 @@
 ghost use Rattle.std.specs.Prelude.{◌≡◌, ◌+◌, ◌≤◌, [], ◌∷◌, ◌++◌, Some};
 ghost use Rattle.shr_model.specs.Pass.{FollowsArithmetic};
 ghost use Rattle.shr_seats.specs.Rows.{IsPlaceOf};
-ghost use Rattle.shr_deferred.specs.Seat.{IsDeferredSeat, GainsMoves};
+ghost use Rattle.shr_deferred.specs.Seat.{GainsMoves};
 ghost use Rattle.shr_pass.specs.Answers.{CountFits};
 ghost use Rattle.shr_pass.specs.Meanings.{SameMeaning, CountsTo};
 ghost use Rattle.shr_pass.specs.Passes.{Scans, EndedBy, MatchPass, IfEmptyPass, CountedBetween, count_of, moves_by, asks_due, calls_of, closes_of};
@@ -14,7 +14,7 @@ use crate::shrinker::Shrinker;
 use shr_arith::formulas::{next_deferred, plan};
 use shr_base::places::Place;
 use shr_base::walks::PassRecord;
-use shr_deferred::{Deferred, DeferredSeat};
+use shr_deferred::DeferredSeat;
 
 /// How hard a pass presses on its objects.
 ///
@@ -38,8 +38,7 @@ pub struct Pressure {
 ///
 /// Linux: `do_shrink_slab` in mm/shrinker.c, with `xchg_nr_deferred` and `add_nr_deferred`.
 pub fn shrink_once<S: Shrinker>(
-    deferred: &Deferred,
-    dseat: &mut DeferredSeat,
+    dseat: &mut DeferredSeat<'_>,
     shrinker: &mut S,
     seat: &mut S::Seat,
     place: Place,
@@ -47,8 +46,7 @@ pub fn shrink_once<S: Shrinker>(
 ) -> PassAnswer
     requires ready { S.ready shrinker.old seat.old }
     requires sizes { (pressure.priority ≤ 12) × (pressure.batch ≤ 20000) }
-    requires place { IsPlaceOf deferred.now.sizes place }
-    requires dseat { IsDeferredSeat deferred.now dseat.old }
+    requires place { IsPlaceOf dseat.old.deferred.sizes place }
 
     // The count, and the record by the published arithmetic.
     ensures counts { S.counts shrinker.new seat.new ≡ S.counts shrinker.old seat.old ++ count_of
@@ -63,7 +61,6 @@ pub fn shrink_once<S: Shrinker>(
     ensures few { MatchPass result (Unit {0}) (λ p. p.freed ≤ 2097152) }
 
     // One take and one give of the record's amounts.
-    ensures dseat { IsDeferredSeat deferred.now dseat.new }
     ensures deferred { GainsMoves dseat.old dseat.new (moves_by place result) }
 
     // The scan calls, and the one that ended the pass.
@@ -92,11 +89,11 @@ pub fn shrink_once<S: Shrinker>(
         Count::Empty { version } => PassAnswer::Empty { version },
         Count::Skip { len, version } => PassAnswer::Skip { len, version },
         Count::Many { len, version } => {
-            let nr = deferred.take(dseat, place);
+            let nr = dseat.take(place);
             let plan = plan(len, nr, pressure.priority, pressure.seeks, pressure.batch);
             let tally = scan_due(shrinker, seat, &plan, len);
             let next = next_deferred(nr, plan.delta, tally.scanned, len);
-            deferred.give(dseat, place, next);
+            dseat.give(place, next);
             PassAnswer::Ran {
                 pass: PassRecord {
                     len,

@@ -11,7 +11,11 @@ pub use Rattle.shr_base.specs.declared.journals.PlainEntry.{PlainEntry}
 pub use Rattle.shr_base.specs.declared.journals.PlainEntry.TheVariants.{Grab, Reclaim, Release}
 pub use Rattle.shr_base.specs.declared.places.Place.{Place}
 pub use Rattle.shr_base.specs.declared.places.Serial.{Serial}
+pub use Rattle.shr_base.specs.Kept.{Kept}
 pub use Rattle.shr_base.specs.declared.walks.PlainTry.{PlainTry}
+pub use Rattle.shr_base.specs.declared.walks.PlainWalk.{PlainWalk}
+pub use Rattle.shr_deferred.specs.Seat.{DeferredSeated}
+pub use Rattle.shr_seats.specs.Standing.{Standing}
 pub use Rattle.shr_model.specs.Units.{IsPlainEntry, IsPlainJournal, free_after, free_of}
 pub use Rattle.shr_pass.specs.Passes.{CountedBetween, EndedBy, MatchPass, Scans, asks_due, count_of, moves_by}
 pub use Rattle.shr_pass.specs.declared.answers.Count.{Count}
@@ -30,13 +34,12 @@ pub use Rattle.shr_plain.specs.Counting.{IsReclaimOf, KeepsUnits, ReclaimGives, 
 pub use Rattle.shr_plain.specs.Ending.{units_ends, units_end_value, units_ends_below, entries_at}
 pub use Rattle.shr_plain.specs.Opening.{setting_by, sizes_for}
 pub use Rattle.shr_plain.specs.Rule.{IsPools, room_journal, first_units_view, joined_units_view, new_units_view, part_of, parts_in, spent_units_view, units_standing_in, units, with_part, with_parts, split_units_view}
-pub use Rattle.shr_plain.specs.Seat.{IsPlainSeat, IsUnitSeatOf, PlainState, UnitSeat, plain_standing, plain_state_of}
+pub use Rattle.shr_plain.specs.Seat.{ActsPlain, IsPlainSeat, IsUnitSeatOf, PlainSeated, PlainState, UnitSeat, plain_seated, plain_standing, plain_state_of}
 pub use Rattle.shr_plain.specs.Settings.{IsPoolOf, IsSetting, home_node, home_place, room_of, setting_of}
-pub use Rattle.shr_plain.specs.Taking.{Counts, HoldsUnitsRoom, Looked, Put, UnitsSat, TakesUnitsRoom}
+pub use Rattle.shr_plain.specs.Taking.{Changes, Counts, HoldsUnitsRoom, Looked, Put, UnitsSat, TakesUnitsRoom}
 pub use Rattle.shr_plain.specs.Walks.{AreScans, AreTried, EndsBy, TryHadMemory, PassGives, TryGives, answer_of, units_freed, try_of}
 pub use Rattle.shr_plain.specs.declared.settings.Setting.{Setting}
 pub use Rattle.shr_plain.specs.declared.slot.Slot.{Slot}
-pub use Rattle.shr_plain.specs.declared.table.PlainSeat.{PlainSeat}
 pub use Rattle.shr_plain.specs.declared.view.View.{View}
 pub use mathlib.Core.Logic.{dite}
 pub use native.Mathlib.Decide.{ℕ_discrete}

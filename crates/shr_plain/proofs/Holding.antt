@@ -1,5 +1,6 @@
 -- Taking a room, having it in hand, and giving it back.
-use Rattle.shr_plain.proofs.Common.{◌≡◌, ◌≢◌, ℕ, ◌+◌, ◌*◌, ◌<◌, ◌%◌, ◌/◌, ◌^◌, ◌++◌, true, false, eqb, List, [], ◌∷◌, refl, sym, ap, subst, ◌∙◌, Allows, rest, PlainEntry, row_count, Sizes, RoomView, with_room_given, with_room_stored, IsTold, here, Slot, View, IsPools, units, room_journal, parts_in, units_standing_in, spent_units_view, with_parts, with_part, part_of, UnitsSat, TakesUnitsRoom, Looked, Put, Counts, with_room_hand, twice, HoldsUnitsRoom}
+use Rattle.shr_plain.proofs.Common.{◌≡◌, ◌≢◌, ℕ, ◌+◌, ◌*◌, ◌<◌, ◌%◌, ◌/◌, ◌^◌, ◌++◌, true, false, eqb, List, [], ◌∷◌, refl, sym, ap, subst, ◌∙◌, Allows, rest, PlainEntry, row_count, Sizes, RoomView, with_room_given, with_room_stored, IsTold, here, Slot, View, IsPools, units, room_journal, parts_in, units_standing_in, spent_units_view, with_parts, with_part, part_of, UnitsSat, TakesUnitsRoom, Looked, Put, Counts, with_room_hand, twice, HoldsUnitsRoom, Changes, UnitSeat, dite, ℕ_discrete, eq-eqb, ne_eqb}
+use Rattle.std.specs.Prelude.{MatchBool}
 use prog.Atomic.{either}
 use Rattle.shr_rooms.proofs.Steps.{loads, locks, unlocks}
 
@@ -8,6 +9,12 @@ pub pools_locks : (z : Sizes) (slots id : ℕ) (m : UnitsSat) → m.0.standing.g
     → Allows (IsPools z) slots id m (8 * i) (λ y. either (eqb y 0) 1 y) (λ n r. (n ≡ 0 → TakesUnitsRoom i m r) × (n ≢ 0 → r ≡ m))
 pools_locks z slots id m alive i low bare out s o deep me fits = let a = locks units room_journal parts_in units_standing_in spent_units_view with_parts (λ v l. refl) (λ v l. refl) (row_count z) slots id m alive i low bare out s o deep me fits in
     (a.0, a.1, a.2, a.3, ((λ n. let t = a.4.0 n in record { room = t.0; seat = t.1; told = t.2 }), a.4.1))
+
+-- so the room was taken where the lock word was 0, and else nothing changed
+pub tried : (i n : ℕ) (s t : UnitSeat) → Changes (λ _ r. (n ≡ 0 → TakesUnitsRoom i s.me r) × (n ≢ 0 → r ≡ s.me)) s t → MatchBool (eqb n 0) (Changes (TakesUnitsRoom i) s t) (t ≡ s)
+tried i n s t x = dite (ℕ_discrete n 0)
+    (λ e. subst (λ b. MatchBool b (Changes (TakesUnitsRoom i) s t) (t ≡ s)) (sym (eq-eqb n 0 e)) (record { same = x.same; did = x.did.0 e }))
+    (λ no. subst (λ b. MatchBool b (Changes (TakesUnitsRoom i) s t) (t ≡ s)) (sym (ne_eqb n 0 no)) (x.same ∙ ap (λ (m : UnitsSat). record s { me = m }) (x.did.1 no)))
 
 -- and set to 0 by the seat that has the room in hand
 pub pools_unlocks : (z : Sizes) (slots id : ℕ) (v : View) → v.standing.gone ≡ false → (i : ℕ) → i < row_count z → (slot : Slot) → slots ≡ row_count z → (part_of v i).in_hand ≡ true → slot.journal.items ≡ (part_of v i).hand

@@ -1,10 +1,11 @@
 -- What one pass over a pool did, from what the pass says of a shrinker.
-use Rattle.shr_plain.proofs.Common.{◌≡◌, ℕ, suc, ◌<◌, ◌≤◌, cond, List, [], ◌∷◌, ◌++◌, length, map, take, sym, refl, ap, subst, ◌∙◌, arith, append_assoc, eq-eqb, Option, Some, None, ◌==◌, ◌&&◌, cons_option, append-nil, filter_map-append, Place, PlainEntry, Release, Grab, Reclaim, Count, PassAnswer, ScanAnswer, ScanSeen, MatchPass, Scans, asks_due, Each, Each-none, RoomMade, RoomCount, RoomView, IsRecent, Setting, PlainSeat, units_kind, counts_seen, units_scan_by, scans_of, IsReclaimOf, KeepsUnits, TellsUnits, part_of, UnitSeat, plain_state_of, PassGives, zero, append_cancel_left, map-append, EndedBy, CountedBetween, count_of, moves_by, Each-weaker, EndsBy, AreScans}
+use Rattle.shr_plain.proofs.Common.{◌≡◌, ℕ, suc, ◌<◌, ◌≤◌, cond, List, [], ◌∷◌, ◌++◌, length, map, take, sym, refl, ap, subst, ◌∙◌, arith, append_assoc, eq-eqb, Option, Some, None, ◌==◌, ◌&&◌, cons_option, append-nil, filter_map-append, Place, PlainEntry, Release, Grab, Reclaim, Count, PassAnswer, ScanAnswer, ScanSeen, MatchPass, Scans, asks_due, Each, Each-none, RoomMade, RoomCount, RoomView, IsRecent, Setting, plain_seated, ActsPlain, DeferredSeated, Kept, PlainWalk, Standing, units_kind, counts_seen, units_scan_by, scans_of, IsReclaimOf, KeepsUnits, TellsUnits, part_of, UnitSeat, PassGives, zero, append_cancel_left, map-append, EndedBy, CountedBetween, count_of, moves_by, Each-weaker, EndsBy, AreScans}
 use Rattle.shr_base.specs.declared.walks.Ending.{Ending}
 use Rattle.shr_base.specs.declared.walks.Ending.TheVariants.{Through, Stop, NoRoom, Worn}
 use Rattle.shr_base.specs.declared.walks.PassRecord.{PassRecord}
 use Rattle.shr_model.specs.Pass.{FollowsArithmetic}
-use Rattle.shr_deferred.specs.Seat as deferred
+use Rattle.shr_deferred.specs.Seat.{GainsMoves}
+use Rattle.shr_plain.specs.declared.table.Pools.{Pools}
 use Rattle.shr_pass.specs.declared.answers.PassAnswer.TheVariants as passed
 
 -- a list that maps to one element has one
@@ -92,9 +93,9 @@ module _ (i worker walk floor : ℕ) (s t : UnitSeat) (kept : KeepsUnits i worke
       (Each-weaker (λ (m : RoomMade PlainEntry). IsRecent mid m.number) (λ (m : RoomMade PlainEntry). c.version ≤ m.number)
       (λ m late. each_last (λ (x : RoomCount). x.version ≤ m.number) first.seen c (subst (Each (λ (x : RoomCount). x.version ≤ m.number)) mid_seen late.seen)) b.after.here.more b.after.here.late)
 
-module _ (setting : Setting) (place : Place) (i worker walk priority : ℕ) (x : PlainSeat) (t : UnitSeat) (kept : KeepsUnits i worker walk x.units t) where
+module _ (setting : Setting) (place : Place) (i worker walk priority : ℕ) (s t : UnitSeat) (kept : KeepsUnits i worker walk s t) where
   abbrev old : RoomView PlainEntry
-  old = part_of x.units.me.0 i
+  old = part_of s.me.0 i
 
   abbrev new : RoomView PlainEntry
   new = part_of t.me.0 i
@@ -112,9 +113,9 @@ module _ (setting : Setting) (place : Place) (i worker walk priority : ℕ) (x :
   none_closed p a = none_over p.closed a.told_closed
 
   scans_are : (answer : PassAnswer) → MatchPass answer (scans_now ≡ scans_then) AreAsked → MatchPass answer (kept.here.more ≡ []) (λ p. AreScans priority setting p (scans_of worker walk kept.here.more))
-  scans_are (passed.Empty version) h = none_made i worker walk setting.floor x.units t kept h
-  scans_are (passed.Skip len version) h = none_made i worker walk setting.floor x.units t kept h
-  scans_are (passed.Ran p) h = let same = scans_made i worker walk setting.floor x.units t kept h.made h.appended in let closed = none_closed p h in let number = h.number in let asks : length h.made ≡ p.asks = omega (arith, closed, number) in
+  scans_are (passed.Empty version) h = none_made i worker walk setting.floor s t kept h
+  scans_are (passed.Skip len version) h = none_made i worker walk setting.floor s t kept h
+  scans_are (passed.Ran p) h = let same = scans_made i worker walk setting.floor s t kept h.made h.appended in let closed = none_closed p h in let number = h.number in let asks : length h.made ≡ p.asks = omega (arith, closed, number) in
       subst (AreScans priority setting p) (sym same) (record { number = asks; asked = h.asked ∙ ap (λ (n : ℕ). take n (asks_due priority setting.seeks setting.batch p)) asks; freed = h.sum_freed })
 
   closed_is : (answer : PassAnswer) → MatchPass answer (scans_now ≡ scans_then) AreAsked → MatchPass answer (Unit {0}) (λ p. p.closed ≡ 0)
@@ -134,7 +135,7 @@ module _ (setting : Setting) (place : Place) (i worker walk priority : ℕ) (x :
   ending_is L E (passed.Ran p) h = ends_by L p.ending h
 
   abbrev IsBetween : PassAnswer → Type 0
-  IsBetween answer = CountedBetween (KeepsUnits i worker walk) (λ (u : UnitSeat). counts_seen setting.floor (part_of u.me.0 i)) (λ (u : UnitSeat). scans_of worker walk (part_of u.me.0 i).made) (counts_seen setting.floor old ++ count_of answer ∷ []) scans_then x.units t
+  IsBetween answer = CountedBetween (KeepsUnits i worker walk) (λ (u : UnitSeat). counts_seen setting.floor (part_of u.me.0 i)) (λ (u : UnitSeat). scans_of worker walk (part_of u.me.0 i).made) (counts_seen setting.floor old ++ count_of answer ∷ []) scans_then s t
 
   none_late : (c : RoomCount) → kept.here.more ≡ [] → Each (λ (m : RoomMade PlainEntry). c.version ≤ m.number) kept.here.more
   none_late c none = subst (Each (λ (m : RoomMade PlainEntry). c.version ≤ m.number)) (sym none) (Each-none (λ (m : RoomMade PlainEntry). c.version ≤ m.number))
@@ -143,33 +144,36 @@ module _ (setting : Setting) (place : Place) (i worker walk priority : ℕ) (x :
       → Each (λ (m : RoomMade PlainEntry). c.version ≤ m.number) kept.here.more
   late_are (passed.Empty version) c one h b = none_late c h
   late_are (passed.Skip len version) c one h b = none_late c h
-  late_are (passed.Ran p) c one h b = behind i worker walk setting.floor x.units t kept c one (count_of (passed.Ran p)) b
+  late_are (passed.Ran p) c one h b = behind i worker walk setting.floor s t kept c one (count_of (passed.Ran p)) b
 
   -- all that a pass did
-  pub pass_gives : (L : ScanAnswer → Type 0) (E : Type 0) (answer : PassAnswer) (d : deferred.DeferredSeat)
+  pub pass_gives : (L : ScanAnswer → Type 0) (E : Type 0) (answer : PassAnswer) (p : Pools) (d e : DeferredSeated) (walks : Kept PlainWalk)
       → counts_seen setting.floor new ≡ counts_seen setting.floor old ++ count_of answer ∷ []
       → MatchPass answer (Unit {0}) (FollowsArithmetic priority setting.seeks setting.batch)
       → MatchPass answer (scans_now ≡ scans_then) AreAsked
       → MatchPass answer E (λ p. EndedBy p.ending (λ a. L a × TellsUnits place a new))
       → MatchPass answer (Unit {0}) (λ p. IsBetween answer)
-      → deferred.GainsMoves x.deferred d (moves_by place answer)
-      → PassGives setting place i worker walk priority answer (plain_state_of x) (plain_state_of (record x { units = t; deferred = d }))
-  pass_gives L E answer d counts follows scans ending between moves = let c = one_count i worker walk setting.floor x.units t kept (count_of answer) counts in let are = scans_are answer scans in record {
-    count = c.0;
-    kind = c.2;
-    seen = kept.here.seen ∙ ap (λ (l : List RoomCount). old.seen ++ l) c.1;
-    fresh = subst (Each (λ (y : RoomCount). IsRecent old y.version)) c.1 kept.here.fresh 0 c.0 refl;
-    more = kept.here.more;
-    made = kept.here.made;
-    reclaims = kept.here.reclaims;
-    late = late_are answer c.0 c.1 are between;
-    scans = are;
-    follows = follows;
-    closed = closed_is answer scans;
-    ending = ending_is L E answer ending;
-    known = kept.here.known;
-    heard = kept.here.heard;
-    others = kept.others;
-    moves = moves.moves;
-    walks = refl;
+      → GainsMoves d e (moves_by place answer)
+      → ActsPlain (PassGives setting place i worker walk priority answer) (plain_seated p s d walks) (plain_seated p t e walks)
+  pass_gives L E answer p d e walks counts follows scans ending between moves = let c = one_count i worker walk setting.floor s t kept (count_of answer) counts in let are = scans_are answer scans in record {
+    rest = ap (λ (z : Standing × Standing). record (plain_seated p t e walks) { standing = z }) (λ q. (kept.standing q, moves.standing q));
+    did = record {
+      count = c.0;
+      kind = c.2;
+      seen = kept.here.seen ∙ ap (λ (l : List RoomCount). old.seen ++ l) c.1;
+      fresh = subst (Each (λ (y : RoomCount). IsRecent old y.version)) c.1 kept.here.fresh 0 c.0 refl;
+      more = kept.here.more;
+      made = kept.here.made;
+      reclaims = kept.here.reclaims;
+      late = late_are answer c.0 c.1 are between;
+      scans = are;
+      follows = follows;
+      closed = closed_is answer scans;
+      ending = ending_is L E answer ending;
+      known = kept.here.known;
+      heard = kept.here.heard;
+      others = kept.others;
+      moves = moves.moves;
+      walks = refl;
+    };
   }

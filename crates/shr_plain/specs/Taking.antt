@@ -7,10 +7,16 @@ use Rattle.shr_rooms.specs.Told.{IsTold, IsCount}
 use Rattle.shr_plain.specs.declared.slot.Slot.{Slot}
 use Rattle.shr_plain.specs.declared.view.View.{View}
 use Rattle.shr_plain.specs.Rule.{units, with_part, part_of}
+use Rattle.shr_plain.specs.Seat.{UnitSeat}
 
 -- a seat as the table knows it: its view, and the rooms that it has taken
 abbrev pub UnitsSat : Type 0
 UnitsSat = Me Slot View
+
+-- it is the same seat, and what it knows and has changed by R
+pub record Changes (R : UnitsSat → UnitsSat → Type 0) (s t : UnitSeat) : Type 0 where
+  pub same : t ≡ record s { me = t.me }
+  pub did : R s.me t.me
 
 -- the room was taken: its journal is right and holds what the seat knows
 pub record TakesUnitsRoom (i : ℕ) (m r : UnitsSat) : Type 0 where

@@ -5,10 +5,10 @@ ghost use Rattle.std.specs.Mem.Slots.{slots_items, slots_filled, slots_len};
 ghost use Rattle.std.specs.Mem.Slots.Ownership.{Filled};
 ghost use Rattle.shr_seats.specs.Rows.{row_count};
 ghost use Rattle.shr_plain.specs.Ending.{IsPoolsEnd, units_end_value, units_ends, units_ends_below, entries_at};
-ghost use Rattle.shr_plain.specs.Seat.{IsPlainSeat, IsFirstSeat, IsLastSeat, plain_state_of, plain_standing};
+ghost use Rattle.shr_plain.specs.Seat.{IsFirstPlainOf, IsLastSeat, first_plain, first_plain_standing};
 
 use crate::slot::Slot;
-use crate::table::{PlainSeat, Pools};
+use crate::table::{FirstPlainSeat, Pools};
 use atomic_table::Closed;
 use shr_base::ends::{PlaceAmount, UnitsEnd};
 use shr_base::log::Log;
@@ -83,11 +83,10 @@ impl Pools {
     /// Ends both tables, and gives each journal with its free units, and what is still deferred. By
     /// then all other seats were joined into the first one, whose view has each entry. On `Memory`
     /// the tables are gone too. Our own.
-    pub fn finish(self, seat: PlainSeat) -> Result<PoolsEnd, Memory>
-        requires seat { IsPlainSeat self seat }
-        requires first { IsFirstSeat (plain_standing seat) }
-        requires whole { IsLastSeat (plain_standing seat) }
-        ensures { IfOk result (IsPoolsEnd self.sizes (plain_state_of seat)) }
+    pub fn finish(self, first: FirstPlainSeat) -> Result<PoolsEnd, Memory>
+        requires first { IsFirstPlainOf self first }
+        requires whole { IsLastSeat (first_plain_standing first) }
+        ensures { IfOk result (IsPoolsEnd self.sizes (first_plain first)) }
     {
         let Pools {
             table,
@@ -96,11 +95,11 @@ impl Pools {
             sizes,
             alloc,
         } = self;
-        let PlainSeat {
+        let FirstPlainSeat {
             units,
             deferred: moving,
             walks: _,
-        } = seat;
+        } = first;
         let mut closed = table.close_with(units);
         let units = take_ends(alloc, &mut closed, sizes);
         closed.free();

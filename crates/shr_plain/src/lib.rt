@@ -21,4 +21,4 @@ pub mod units;
 pub mod view;
 pub mod walking;
 
-pub use table::{PlainSeat, Pools};
+pub use table::{FirstPlainSeat, PlainSeat, Pools};

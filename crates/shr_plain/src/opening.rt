@@ -4,14 +4,14 @@ ghost use Rattle.std.specs.Prelude.{◌≡◌, ◌<◌, ◌≤◌, [], map, leng
 ghost use Rattle.shr_seats.specs.Standing.{at_first};
 ghost use Rattle.shr_seats.specs.Views.{Each};
 ghost use Rattle.shr_plain.specs.Rule.{room_journal};
-ghost use Rattle.shr_plain.specs.Seat.{IsPlainSeat, plain_state_of, plain_standing, no_state};
+ghost use Rattle.shr_plain.specs.Seat.{IsFirstPlainOf, first_plain, first_plain_standing, no_state};
 ghost use Rattle.shr_plain.specs.Settings.{IsSetting};
 ghost use Rattle.shr_plain.specs.Opening.{setting_by, sizes_for as sizes_by};
 
 use crate::settings::Setting;
 use crate::slot::Slot;
 use crate::steps::WORDS_A_ROOM;
-use crate::table::{PlainSeat, Pools};
+use crate::table::{FirstPlainSeat, Pools};
 use atomic_table::{Refused, Table};
 use shr_base::log::Log;
 use shr_base::memory::Memory;
@@ -82,15 +82,15 @@ impl Pools {
         alloc: Global,
         decls: &Log<PoolDecl>,
         nodes: u8,
-    ) -> Result<(Pools, PlainSeat), Memory>
+    ) -> Result<(Pools, FirstPlainSeat), Memory>
         requires nodes { (0 < nodes) × (nodes ≤ 4) }
         requires few { length decls.now.items ≤ 64 }
         requires pools { All (λ d. IsSetting (setting_by d)) decls.now.items }
         ensures sizes { IfOk result (λ t. t.0.sizes ≡ sizes_by (length decls.now.items) nodes) }
         ensures settings { IfOk result (λ t. t.0.settings.items ≡ map setting_by decls.now.items) }
-        ensures seat { IfOk result (λ t. IsPlainSeat t.0 t.1) }
-        ensures state { IfOk result (λ t. plain_state_of t.1 ≡ no_state) }
-        ensures standing { IfOk result (λ t. plain_standing t.1 ≡ (at_first, at_first)) }
+        ensures first { IfOk result (λ t. IsFirstPlainOf t.0 t.1) }
+        ensures state { IfOk result (λ t. first_plain t.1 ≡ no_state) }
+        ensures standing { IfOk result (λ t. first_plain_standing t.1 ≡ (at_first, at_first)) }
     {
         let settings = settings_of(alloc, decls)?;
         let sizes = sizes_for(decls.len(), nodes);
@@ -106,7 +106,7 @@ impl Pools {
                     sizes,
                     alloc,
                 },
-                PlainSeat {
+                FirstPlainSeat {
                     units,
                     deferred: moving,
                     walks: Log::new(alloc),

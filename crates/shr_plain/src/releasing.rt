@@ -1,12 +1,12 @@
 //! Releasing units to a pool.
 
-ghost use Rattle.std.specs.Prelude.{◌≡◌, ◌≤◌};
+ghost use Rattle.std.specs.Prelude.{◌≤◌};
 ghost use Rattle.shr_plain.specs.Answers.{ReleaseGives};
-ghost use Rattle.shr_plain.specs.Seat.{IsPlainSeat, plain_state_of, plain_standing};
+ghost use Rattle.shr_plain.specs.Seat.{ActsPlain};
 ghost use Rattle.shr_plain.specs.Settings.{IsPoolOf, home_place, room_of};
 
 use crate::answers::ReleaseAnswer;
-use crate::table::{PlainSeat, Pools};
+use crate::table::PlainSeat;
 use shr_base::journals::PlainEntry;
 use shr_base::places::Serial;
 use shr_base::replies::Spent;
@@ -18,41 +18,39 @@ pub const MOST_FREE: u32 = 20_000;
 /// The most entries of the journal of a pool on a node. Our own.
 pub const MOST_ENTRIES: u32 = 1 << 31;
 
-impl Pools {
+impl<'a> PlainSeat<'a> {
     /// Makes 1 to 20,000 units free in a pool, or tells why not. All units of a flat pool are at
     /// node 0.
     ///
     /// It waits for the room, and takes memory for the entry. After `Full`, `Worn` and `Memory` the
     /// pool is as it was. Our own; a shrinker's objects come to be freeable as its owner likes.
     pub fn release<R: Wait>(
-        &self,
+        &mut self,
         rt: &R,
-        seat: &mut PlainSeat,
         by: Serial,
         pool: u8,
         node: u8,
         units: u32,
     ) -> ReleaseAnswer
-        requires seat { IsPlainSeat self.now seat.old }
-        requires pool { IsPoolOf self.now.settings.items self.now.sizes pool node }
+        requires pool { IsPoolOf self.old.pools.settings.items self.old.pools.sizes pool node }
         requires units { (1 ≤ units) × (units ≤ 20000) }
-        ensures seat { IsPlainSeat self.now seat.new }
-        ensures standing { plain_standing seat.new ≡ plain_standing seat.old }
-        ensures released { ReleaseGives (home_place self.now.settings.items pool node)
-            (room_of self.now.settings.items self.now.sizes pool node) by units result
-            (plain_state_of seat.old) (plain_state_of seat.new) }
+        ensures released { ActsPlain (ReleaseGives
+            (home_place self.old.pools.settings.items pool node)
+            (room_of self.old.pools.settings.items self.old.pools.sizes pool node) by units
+            result) self.old self.new }
     {
-        let place = self.place(pool, node);
-        let room = self.sizes.row(place);
-        let mut slot = self.take(rt, &mut seat.units, room);
+        let pools = self.pools;
+        let place = pools.place(pool, node);
+        let room = pools.sizes.row(place);
+        let mut slot = pools.take(rt, &mut self.units, room);
         let entries = slot.journal.len() as u32;
         let free = slot.free;
         if free + units > MOST_FREE {
-            self.give(&mut seat.units, room, slot);
+            pools.give(&mut self.units, room, slot);
             return ReleaseAnswer::Full { entries, free };
         }
         if entries >= MOST_ENTRIES {
-            self.give(&mut seat.units, room, slot);
+            pools.give(&mut self.units, room, slot);
             return ReleaseAnswer::Worn {
                 spent: Spent::List {
                     place,
@@ -62,11 +60,11 @@ impl Pools {
             };
         }
         if slot.journal.reserve(1).is_err() {
-            self.give(&mut seat.units, room, slot);
+            pools.give(&mut self.units, room, slot);
             return ReleaseAnswer::Memory;
         }
-        self.put(
-            &mut seat.units,
+        pools.put(
+            &mut self.units,
             room,
             slot,
             PlainEntry::Release { by, units },

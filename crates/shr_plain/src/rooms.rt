@@ -1,13 +1,14 @@
 //! The rooms: counting, taking one, putting an entry into its journal, and giving it back.
 
-ghost use Rattle.std.specs.Prelude.{◌≡◌, ◌+◌, ◌*◌, ◌<◌, ◌≤◌, ◌%◌, ◌/◌, ◌^◌, true, false, [], ◌∷◌, ◌++◌, length, MatchBool};
+ghost use Rattle.std.specs.Prelude.{◌≡◌, ◌+◌, ◌*◌, ◌<◌, ◌≤◌, ◌%◌, ◌/◌, ◌^◌, true, [], ◌∷◌, ◌++◌, length, MatchBool};
 ghost use Rattle.shr_model.specs.Units.{IsPlainEntry, free_of};
 ghost use Rattle.shr_rooms.specs.Views.{with_room_stored, with_room_given};
 ghost use Rattle.shr_seats.specs.Rows.{row_count};
+ghost use Rattle.shr_seats.specs.Standing.{IsSeatOf};
 ghost use Rattle.shr_plain.specs.declared.slot.Slot.{Slot as Kept};
 ghost use Rattle.shr_plain.specs.Rule.{with_part, part_of};
 ghost use Rattle.shr_plain.specs.Seat.{IsUnitSeatOf};
-ghost use Rattle.shr_plain.specs.Taking.{TakesUnitsRoom, HoldsUnitsRoom, Counts};
+ghost use Rattle.shr_plain.specs.Taking.{Changes, TakesUnitsRoom, HoldsUnitsRoom, Counts};
 
 use crate::slot::Slot;
 use crate::steps::WORDS_A_ROOM;
@@ -57,9 +58,8 @@ impl Pools {
     fn try_take(&self, seat: &mut UnitSeat, room: usize) -> bool
         requires seat { IsUnitSeatOf self.now seat.old }
         requires room { room < row_count self.now.sizes }
-        ensures table { seat.new.table_id ≡ seat.old.table_id }
-        ensures taken { MatchBool result (TakesUnitsRoom room seat.old.me seat.new.me)
-            (seat.new.me ≡ seat.old.me) }
+        ensures taken { MatchBool result (Changes (TakesUnitsRoom room) seat.old seat.new)
+            (seat.new ≡ seat.old) }
     {
         self.lock_as::<Brand>(seat, WORDS_A_ROOM * room, room) == 0
     }
@@ -68,8 +68,8 @@ impl Pools {
     pub(crate) fn take<R: Wait>(&self, rt: &R, seat: &mut UnitSeat, room: usize) -> Slot
         requires seat { IsUnitSeatOf self.now seat.old }
         requires room { room < row_count self.now.sizes }
-        ensures table { seat.new.table_id ≡ seat.old.table_id }
-        ensures taken { HoldsUnitsRoom room seat.old.me seat.new.me result.journal.items }
+        ensures taken { Changes (λ m r. HoldsUnitsRoom room m r result.journal.items) seat.old
+            seat.new }
     {
         let backoff = Backoff::new();
         for _turn in rt.forever() {
@@ -90,19 +90,20 @@ impl Pools {
 
     // Stores the count of a room that is in hand, with one entry more.
     fn store(&self, seat: &mut UnitSeat, room: usize, slot: &Slot, entry: PlainEntry)
-        requires table { seat.old.table_id ≡ self.now.table.shared.table_id }
-        requires here { seat.old.me.0.standing.gone ≡ false }
+        requires seat { IsSeatOf self.now.table.shared.table_id seat.old.table_id
+            seat.old.me.0.standing }
         requires hand { (part_of seat.old.me.0 room).in_hand ≡ true }
         requires more { slot.now.journal.items ≡ (part_of seat.old.me.0 room).hand ++ entry ∷ [] }
         requires may { IsPlainEntry (part_of seat.old.me.0 room).hand entry }
         requires few { length slot.now.journal.items ≤ 2147483648 }
         requires room { room < row_count self.now.sizes }
-        ensures table { seat.new.table_id ≡ seat.old.table_id }
-        ensures stored { seat.new.me ≡ (
-          with_part seat.old.me.0 room (with_room_stored (part_of
-              seat.old.me.0 room) entry),
-          seat.old.me.1,
-        ) }
+        ensures stored { seat.new ≡ record seat.old {
+          me = (
+            with_part seat.old.me.0 room (with_room_stored (part_of
+                seat.old.me.0 room) entry),
+            seat.old.me.1,
+          );
+        } }
     {
         let new = slot.journal.len() as u64 * (1 << 32) + slot.free as u64;
         self.store_as::<Brand>(seat, WORDS_A_ROOM * room + 1, new, room, entry);
@@ -110,18 +111,19 @@ impl Pools {
 
     /// Gives a room back with what it holds. Our own.
     pub(crate) fn give(&self, seat: &mut UnitSeat, room: usize, slot: Slot)
-        requires table { seat.old.table_id ≡ self.now.table.shared.table_id }
-        requires here { seat.old.me.0.standing.gone ≡ false }
+        requires seat { IsSeatOf self.now.table.shared.table_id seat.old.table_id
+            seat.old.me.0.standing }
         requires hand { (part_of seat.old.me.0 room).in_hand ≡ true }
         requires taken { (left : Kept) × (seat.old.me.1 ≡ (room, left) ∷ []) }
         requires same { slot.journal.items ≡ (part_of seat.old.me.0 room).hand }
         requires room { room < row_count self.now.sizes }
-        ensures table { seat.new.table_id ≡ seat.old.table_id }
-        ensures given { seat.new.me ≡ (
-          with_part seat.old.me.0 room (with_room_given (part_of
-              seat.old.me.0 room)),
-          [],
-        ) }
+        ensures given { seat.new ≡ record seat.old {
+          me = (
+            with_part seat.old.me.0 room (with_room_given (part_of
+                seat.old.me.0 room)),
+            [],
+          );
+        } }
     {
         self.table.shared.exchange(seat, room, slot);
         self.free_as::<Brand>(seat, WORDS_A_ROOM * room, room);
@@ -130,8 +132,8 @@ impl Pools {
     /// Gives a room back with one entry more, whose memory was made, and stores its count before.
     /// Our own.
     pub(crate) fn put(&self, seat: &mut UnitSeat, room: usize, slot: Slot, entry: PlainEntry)
-        requires table { seat.old.table_id ≡ self.now.table.shared.table_id }
-        requires here { seat.old.me.0.standing.gone ≡ false }
+        requires seat { IsSeatOf self.now.table.shared.table_id seat.old.table_id
+            seat.old.me.0.standing }
         requires hand { (part_of seat.old.me.0 room).in_hand ≡ true }
         requires taken { (left : Kept) × (seat.old.me.1 ≡ (room, left) ∷ []) }
         requires same { slot.journal.items ≡ (part_of seat.old.me.0 room).hand }
@@ -139,12 +141,13 @@ impl Pools {
         requires may { IsPlainEntry slot.journal.items entry }
         requires few { length slot.journal.items < 2147483648 }
         requires room { room < row_count self.now.sizes }
-        ensures table { seat.new.table_id ≡ seat.old.table_id }
-        ensures put { seat.new.me ≡ (
-          with_part seat.old.me.0 room (with_room_given (with_room_stored (part_of
-              seat.old.me.0 room) entry)),
-          [],
-        ) }
+        ensures put { seat.new ≡ record seat.old {
+          me = (
+            with_part seat.old.me.0 room (with_room_given (with_room_stored (part_of
+                seat.old.me.0 room) entry)),
+            [],
+          );
+        } }
     {
         let slot = with_entry(slot, entry);
         self.store(seat, room, &slot, entry);
@@ -156,8 +159,7 @@ impl Pools {
     pub(crate) fn count(&self, seat: &mut UnitSeat, room: usize) -> (u32, u32)
         requires seat { IsUnitSeatOf self.now seat.old }
         requires room { room < row_count self.now.sizes }
-        ensures table { seat.new.table_id ≡ seat.old.table_id }
-        ensures counted { Counts room seat.old.me seat.new.me result.0 result.1 }
+        ensures counted { Changes (λ m r. Counts room m r result.0 result.1) seat.old seat.new }
     {
         let word = self.load_as::<Brand>(seat, WORDS_A_ROOM * room + 1, room);
         ((word % (1 << 32)) as u32, (word / (1 << 32)) as u32)

@@ -4,6 +4,7 @@ ghost use Rattle.std.specs.Prelude.{◌≡◌, ◌<◌, ◌==◌};
 ghost use prog.Atomic.{either};
 ghost use Rattle.atomic_table.specs.Table.{Allows};
 ghost use Rattle.shr_plain.specs.Rule.{IsPools};
+ghost use Rattle.shr_plain.specs.Taking.{Changes};
 
 use crate::slot::Slot;
 use crate::table::{Pools, UnitSeat};
@@ -28,8 +29,7 @@ impl Pools {
         requires word { word < self.now.table.shared.table_id.words }
         requires step { Allows (IsPools self.now.table.shared.key)
             self.now.table.shared.table_id.slots seat.old.id seat.old.me word (λ y. y) T.tells }
-        ensures table { seat.new.table_id ≡ seat.old.table_id }
-        ensures told { T.tells result seat.new.me }
+        ensures told { Changes (λ _. T.tells result) seat.old seat.new }
     {
         self.table.shared.load::<Told<T>>(seat, word)
     }
@@ -47,8 +47,7 @@ impl Pools {
         requires step { Allows (IsPools self.now.table.shared.key)
             self.now.table.shared.table_id.slots seat.old.id seat.old.me word
             (λ y. either (y == 0) 1 y) T.tells }
-        ensures table { seat.new.table_id ≡ seat.old.table_id }
-        ensures told { T.tells result seat.new.me }
+        ensures told { Changes (λ _. T.tells result) seat.old seat.new }
     {
         self.table
             .shared
@@ -69,8 +68,7 @@ impl Pools {
         requires step { Allows (IsPools self.now.table.shared.key)
             self.now.table.shared.table_id.slots seat.old.id seat.old.me word (λ _. new)
             (λ _. T.tells new) }
-        ensures table { seat.new.table_id ≡ seat.old.table_id }
-        ensures told { T.tells new seat.new.me }
+        ensures told { Changes (λ _. T.tells new) seat.old seat.new }
     {
         self.table.shared.store::<Told<T>>(seat, word, new);
     }
@@ -87,8 +85,7 @@ impl Pools {
         requires step { Allows (IsPools self.now.table.shared.key)
             self.now.table.shared.table_id.slots seat.old.id seat.old.me word (λ _. 0)
             (λ _. T.tells 0) }
-        ensures table { seat.new.table_id ≡ seat.old.table_id }
-        ensures told { T.tells 0 seat.new.me }
+        ensures told { Changes (λ _. T.tells 0) seat.old seat.new }
     {
         self.table.shared.store::<Told<T>>(seat, word, 0);
     }

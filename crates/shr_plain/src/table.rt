@@ -12,9 +12,10 @@ use atomic_table::{Seat, Table};
 use shr_base::log::Log;
 use shr_base::places::Place;
 use shr_base::walks::PlainWalk;
-use shr_deferred::{Deferred, DeferredSeat};
+use shr_deferred::{Deferred, DeferredSeat, FirstDeferredSeat};
 use shr_seats::rows::Sizes;
 use std::alloc::Global;
+use std::marker::Model;
 
 /// A thread's seat at the table of rooms. Our own.
 pub type UnitSeat = Seat<Slot, View>;
@@ -40,12 +41,32 @@ pub struct Pools {
     ghost groups: { sizes.groups ≡ 1 },
 }
 
-/// A thread's seats at both tables, and its walks of the pools. Our own.
+/// A thread's seats at both tables of these pools, and its walks of the pools. Our own.
 #[derive(Drop)]
-pub struct PlainSeat {
+pub struct PlainSeat<'a> {
+    pub(crate) pools: &'a Pools,
     pub(crate) units: UnitSeat,
-    pub(crate) deferred: DeferredSeat,
-    pub walks: Log<PlainWalk>,
+    pub(crate) deferred: DeferredSeat<'a>,
+    pub(crate) walks: Log<PlainWalk>,
+}
+
+impl<'a> Model for PlainSeat<'a> {
+    ghost use Rattle.shr_plain.specs.Seat.{PlainSeated, IsPlainSeat, plain_seated};
+
+    ghost Value = { PlainSeated };
+
+    ghost view = { λ s. plain_seated s.pools.now s.units s.deferred s.walks };
+
+    ghost invariant = { λ s. IsPlainSeat s.pools.now s.units s.deferred };
+}
+
+/// The first seats while no thread sits at the tables: before the first does, and after the last.
+/// Our own.
+#[derive(Drop)]
+pub struct FirstPlainSeat {
+    pub(crate) units: UnitSeat,
+    pub(crate) deferred: FirstDeferredSeat,
+    pub(crate) walks: Log<PlainWalk>,
 }
 
 impl Pools {

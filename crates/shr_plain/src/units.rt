@@ -1,10 +1,11 @@
 //! A pool on a node, as a shrinker.
 
-ghost use Rattle.std.specs.Prelude.{◌≡◌, ◌<◌, ◌≤◌, None};
+ghost use Rattle.std.specs.Prelude.{◌<◌, ◌≤◌, None};
 ghost use Rattle.shr_seats.specs.Rows.{row_count};
 ghost use Rattle.shr_plain.specs.Counting.{counts_seen, scans_of, KeepsUnits, TellsUnits, ReclaimGives};
 ghost use Rattle.shr_plain.specs.Rule.{part_of};
 ghost use Rattle.shr_plain.specs.Seat.{IsUnitSeatOf};
+ghost use Rattle.shr_plain.specs.Taking.{Changes};
 ghost use Rattle.shr_plain.specs.Keeping.{keeps_refl, keeps_trans, seat_stays, units_tells_stay};
 
 use crate::releasing::MOST_ENTRIES;
@@ -95,9 +96,8 @@ impl<'a, R: Wait> Units<'a, R> {
     fn reclaim(&self, seat: &mut UnitSeat, asked: u32) -> ScanAnswer
         requires seat { IsUnitSeatOf self.now.pools.now seat.old }
         requires room { self.now.room < row_count self.now.pools.now.sizes }
-        ensures table { seat.new.table_id ≡ seat.old.table_id }
-        ensures reclaimed { ReclaimGives self.now.place self.now.room self.now.worker self.now.walk
-            asked result seat.old.me seat.new.me }
+        ensures reclaimed { Changes (ReclaimGives self.now.place self.now.room self.now.worker
+            self.now.walk asked result) seat.old seat.new }
     {
         let mut slot = self.pools.take(self.rt, seat, self.room);
         let entries = slot.journal.len() as u32;

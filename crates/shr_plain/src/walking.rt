@@ -1,18 +1,20 @@
 //! The walk of all pools.
 
-ghost use Rattle.std.specs.Prelude.{◌≡◌, ℕ, ◌+◌, ◌<◌, ◌≤◌, ◌^◌, [], length};
+ghost use Rattle.std.specs.Prelude.{◌≡◌, ◌-◌, ◌<◌, ◌≤◌, ◌^◌, [], length, OnOk};
 ghost use Rattle.shr_pass.specs.Passes.{MatchPass};
-ghost use Rattle.shr_plain.specs.Seat.{IsPlainSeat, plain_state_of, plain_standing};
+ghost use Rattle.shr_plain.specs.Seat.{ActsPlain, plain_walks_of};
 ghost use Rattle.shr_plain.specs.Settings.{IsPoolOf, setting_of, home_place, room_of};
 ghost use Rattle.shr_plain.specs.Walks.{PassGives, AreTried, Answers, PlainWalkGives, try_of, units_freed, try_lacked_memory};
 
-use crate::table::{PlainSeat, Pools};
+use crate::table::PlainSeat;
 use crate::units::Units;
 use shr_base::log::Log;
+use shr_base::memory::Memory;
 use shr_base::places::Serial;
 use shr_base::walks::{Ending, PlainAnswer, PlainTry, PlainWalk};
 use shr_pass::answers::PassAnswer;
 use shr_pass::pass::{Pressure, shrink_once};
+use std::mem::replace;
 use std::sync::Wait;
 
 // A walk of all pools: by this command, with this number among the walks of its worker, for this
@@ -63,29 +65,45 @@ fn lacked_memory(tried: PlainTry) -> bool
     }
 }
 
-impl Pools {
-    // One pass over a pool, for a walk.
-    fn pass<R: Wait>(&self, rt: &R, seat: &mut PlainSeat, walk: Walk, pool: u8) -> PassAnswer
-        requires seat { IsPlainSeat self.now seat.old }
-        requires pool { IsPoolOf self.now.settings.items self.now.sizes pool walk.node }
-        requires priority { walk.priority ≤ 12 }
-        ensures seat { IsPlainSeat self.now seat.new }
-        ensures standing { plain_standing seat.new ≡ plain_standing seat.old }
-        ensures spare { seat.new.walks ≡ seat.old.walks }
-        ensures few { MatchPass result (Unit {0}) (λ p. p.freed ≤ 2097152) }
-        ensures passed { PassGives (setting_of self.now.settings.items pool)
-            (home_place self.now.settings.items pool walk.node)
-            (room_of self.now.settings.items self.now.sizes pool walk.node)
-            walk.by.worker walk.number walk.priority result
-            (plain_state_of seat.old) (plain_state_of seat.new) }
+impl<'a> PlainSeat<'a> {
+    /// Makes room for the record of a walk. On `Memory` there is as much as before. Our own.
+    pub fn reserve_walk(&mut self) -> Result<(), Memory>
+        ensures rest { self.new ≡ record self.old { spare = self.new.spare } }
+        ensures spare { OnOk result (0 < self.new.spare) }
+        ensures grows { self.old.spare ≤ self.new.spare }
     {
-        let setting = self.settings.as_slice()[pool as usize];
-        let place = self.place(pool, walk.node);
+        self.walks.reserve(1)
+    }
+
+    /// Takes the records of all its walks. Our own.
+    pub fn take_walks(&mut self) -> Log<PlainWalk>
+        ensures walks { result ≡ plain_walks_of self.old }
+        ensures left { self.new ≡ record self.old {
+          state = record self.old.state { walks = [] };
+          spare = 0;
+        } }
+    {
+        replace(&mut self.walks, Log::new(self.pools.alloc))
+    }
+
+    // One pass over a pool, for a walk.
+    fn pass<R: Wait>(&mut self, rt: &R, walk: Walk, pool: u8) -> PassAnswer
+        requires pool { IsPoolOf self.old.pools.settings.items self.old.pools.sizes pool walk.node }
+        requires priority { walk.priority ≤ 12 }
+        ensures few { MatchPass result (Unit {0}) (λ p. p.freed ≤ 2097152) }
+        ensures passed { ActsPlain (PassGives (setting_of self.old.pools.settings.items pool)
+            (home_place self.old.pools.settings.items pool walk.node)
+            (room_of self.old.pools.settings.items self.old.pools.sizes pool walk.node)
+            walk.by.worker walk.number walk.priority result) self.old self.new }
+    {
+        let pools = self.pools;
+        let setting = pools.settings.as_slice()[pool as usize];
+        let place = pools.place(pool, walk.node);
         let mut units = Units {
             rt,
-            pools: self,
+            pools,
             place,
-            room: self.sizes.row(place),
+            room: pools.sizes.row(place),
             floor: setting.floor,
             worker: walk.by.worker,
             walk: walk.number,
@@ -93,10 +111,9 @@ impl Pools {
             last: None,
         };
         shrink_once(
-            &self.deferred,
-            &mut seat.deferred,
+            &mut self.deferred,
             &mut units,
-            &mut seat.units,
+            &mut self.units,
             place,
             Pressure {
                 priority: walk.priority,
@@ -107,31 +124,21 @@ impl Pools {
     }
 
     // A pass over each pool in rising order, until one ends for want of memory.
-    fn walk_pools<R: Wait>(
-        &self,
-        rt: &R,
-        seat: &mut PlainSeat,
-        tries: &mut Log<PlainTry>,
-        walk: Walk,
-    ) -> PlainAnswer
-        requires seat { IsPlainSeat self.now seat.old }
-        requires node { walk.node < self.now.sizes.nodes }
+    fn walk_pools<R: Wait>(&mut self, rt: &R, tries: &mut Log<PlainTry>, walk: Walk) -> PlainAnswer
+        requires node { walk.node < self.old.pools.sizes.nodes }
         requires priority { walk.priority ≤ 12 }
         requires blank { tries.old.items ≡ [] }
-        ensures seat { IsPlainSeat self.now seat.new }
-        ensures standing { plain_standing seat.new ≡ plain_standing seat.old }
-        ensures walks { seat.new.walks ≡ seat.old.walks }
-        ensures tried { AreTried self.now.settings.items self.now.sizes walk.by walk.number
-            walk.node walk.priority 0 tries.new.items (plain_state_of seat.old)
-            (plain_state_of seat.new) }
-        ensures answers { Answers (length self.now.settings.items) tries.new.items result }
+        ensures tried { ActsPlain (AreTried self.old.pools.settings.items self.old.pools.sizes
+            walk.by walk.number walk.node walk.priority 0 tries.new.items) self.old self.new }
+        ensures answers { Answers (length self.old.pools.settings.items) tries.new.items result }
     {
-        if tries.reserve(self.settings.len()).is_err() {
+        let pools = self.pools.settings.len();
+        if tries.reserve(pools).is_err() {
             return PlainAnswer::Memory { freed: 0 };
         }
         let mut freed = 0;
-        for pool in 0..self.settings.len() {
-            let answer = self.pass(rt, seat, walk, pool as u8);
+        for pool in 0..pools {
+            let answer = self.pass(rt, walk, pool as u8);
             let tried = try_of(answer);
             tries.push(tried);
             freed += freed_in(tried);
@@ -152,34 +159,24 @@ impl Pools {
     ///
     /// Linux: what `shrink_slab` in mm/shrinker.c does for the root with the shrinkers that aren't
     /// `SHRINKER_MEMCG_AWARE`.
-    pub fn walk_plain<R: Wait>(
-        &self,
-        rt: &R,
-        seat: &mut PlainSeat,
-        by: Serial,
-        node: u8,
-        priority: u8,
-    ) -> PlainAnswer
-        requires seat { IsPlainSeat self.now seat.old }
-        requires node { node < self.now.sizes.nodes }
+    pub fn walk_plain<R: Wait>(&mut self, rt: &R, by: Serial, node: u8, priority: u8) -> PlainAnswer
+        requires node { node < self.old.pools.sizes.nodes }
         requires priority { priority ≤ 12 }
-        requires room { 0 < seat.old.walks.spare }
-        requires few { length seat.old.walks.items < 2 ^ 32 }
-        ensures seat { IsPlainSeat self.now seat.new }
-        ensures standing { plain_standing seat.new ≡ plain_standing seat.old }
-        ensures spare { seat.new.walks.spare + 1 ≡ seat.old.walks.spare }
-        ensures walked { PlainWalkGives self.now.settings.items self.now.sizes by node priority
-            result (plain_state_of seat.old) (plain_state_of seat.new) }
+        requires room { 0 < self.old.spare }
+        requires few { length self.old.state.walks < 2 ^ 32 }
+        ensures walked { ActsPlain (PlainWalkGives self.old.pools.settings.items
+            self.old.pools.sizes by node priority result)
+            (record self.old { spare = self.old.spare - 1 }) self.new }
     {
         let walk = Walk {
             by,
-            number: seat.walks.len() as u32,
+            number: self.walks.len() as u32,
             node,
             priority,
         };
-        let mut tries = Log::new(self.alloc);
-        let answer = self.walk_pools(rt, seat, &mut tries, walk);
-        seat.walks.push(PlainWalk {
+        let mut tries = Log::new(self.pools.alloc);
+        let answer = self.walk_pools(rt, &mut tries, walk);
+        self.walks.push(PlainWalk {
             by,
             node,
             priority,

@@ -6,7 +6,7 @@ ghost use Rattle.shr_seats.specs.Standing.{at_first, at_split, with_split, with_
 ghost use Rattle.shr_pool.specs.declared.items.SweepItem.TheVariants.{Walk, End};
 ghost use Rattle.shr_pool.specs.Known.{HasPoppedWithin};
 ghost use Rattle.shr_pool.specs.Lines.{ends, job_at, queue_line, most_helpers};
-ghost use Rattle.shr_pool.specs.Passes.{IsFilling, IsHelper, IsJobPass, pass_view};
+ghost use Rattle.shr_pool.specs.Passes.{IsFilling, IsHandedOut, IsJobPass, pass_view};
 ghost use Rattle.shr_pool.specs.Worked.{ArePopped, AreWorked, AreEachOnce};
 ghost use Rattle.shr_pool.specs.Rule.{with_push, with_pop, split_pass_view, joined_pass_view, new_pass_view};
 
@@ -128,7 +128,7 @@ impl Jobs {
     pub fn join(&mut self, pass: JobPass)
         requires first { IsJobPass self.old.queue self.old.first
             × ((pass_view self.old.first).standing.first ≡ true) }
-        requires pass { IsJobPass self.old.queue pass × IsHelper (pass_view pass) }
+        requires pass { IsHandedOut self.old.queue pass }
         ensures queue { self.new.queue ≡ self.old.queue }
         ensures first { IsJobPass self.new.queue self.new.first
             × (pass_view self.new.first ≡ joined_pass_view (pass_view self.old.first)
@@ -156,7 +156,7 @@ impl JobQueue {
     ///
     /// It waits only while another pass is in the middle of a pop. Our own.
     pub fn pop<R: Wait>(&self, rt: &R, pass: &mut JobPass) -> Option<SweepJob>
-        requires pass { IsJobPass self.now pass.old × IsHelper (pass_view pass.old) }
+        requires pass { IsHandedOut self.now pass.old }
         requires open { ends (pass_view pass.old).popped ≡ 0 }
         requires marked { most_helpers ≤ ends (pass_view pass.old).pushed }
         ensures pass { IsJobPass self.now pass.new }

@@ -1,8 +1,7 @@
 //! Two helpers on threads work off the jobs of two nodes and five groups.
 
-ghost use Rattle.std.specs.Prelude.{◌≡◌, ◌≤◌, true};
-ghost use Rattle.shr_pool.specs.Lines.{ends, most_helpers};
-ghost use Rattle.shr_pool.specs.Passes.{IsHelper, IsJobPass, pass_view};
+ghost use Rattle.std.specs.Prelude.{true};
+ghost use Rattle.shr_pool.specs.Passes.{IsHandedOut, IsPopping};
 
 use crate::jobs::{JobPass, JobQueue, Jobs};
 use std::sync::Wait;
@@ -11,10 +10,8 @@ use std::thread;
 
 // Pops until the mark, and counts.
 fn work<R: Wait>(rt: &R, jobs: &JobQueue, mut pass: JobPass) -> (JobPass, u32)
-    requires pass { IsJobPass jobs.now pass × IsHelper (pass_view pass) }
-    requires open { ends (pass_view pass).popped ≡ 0 }
-    requires marked { most_helpers ≤ ends (pass_view pass).pushed }
-    ensures pass { IsJobPass jobs.now result.0 × IsHelper (pass_view result.0) }
+    requires { IsPopping jobs.now pass }
+    ensures { IsHandedOut jobs.now result.0 }
 {
     let mut count = 0u32;
     for _turn in rt.forever() {
@@ -35,14 +32,12 @@ fn two_helpers_walk_each_job_once(rt: HostRuntime) -> Result<(), Fail> {
     let ((one, a), (two, b)) = thread::join(
         &rt,
         move ||
-            requires { IsJobPass shared.now one × IsHelper (pass_view one)
-                × (ends (pass_view one).popped ≡ 0) × (most_helpers ≤ ends (pass_view one).pushed) }
-            ensures { IsJobPass shared.entry.now result.0 × IsHelper (pass_view result.0) }
+            requires { IsPopping shared.now one }
+            ensures { IsHandedOut shared.entry.now result.0 }
         { work(&rt, shared, one) },
         move ||
-            requires { IsJobPass shared.now two × IsHelper (pass_view two)
-                × (ends (pass_view two).popped ≡ 0) × (most_helpers ≤ ends (pass_view two).pushed) }
-            ensures { IsJobPass shared.entry.now result.0 × IsHelper (pass_view result.0) }
+            requires { IsPopping shared.now two }
+            ensures { IsHandedOut shared.entry.now result.0 }
         { work(&rt, shared, two) },
     );
     jobs.join(one);

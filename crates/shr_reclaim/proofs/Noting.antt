@@ -2,7 +2,7 @@
 use Rattle.shr_reclaim.proofs.Common.{◌≡◌, ℕ, ◌^◌, ◌<◌, ◌≤◌, List, [], ◌∷◌, ◌++◌, length, map, sym, ap, subst, ◌∙◌, arith, length-append, length-map, UseStep, Serial, depth_of, ChargeAnswer, Shape, ChargeOps, use_group, uses_of, tree_of, Uses, Shared, Does, state_of, does_none, IsChargeTried, charge_work, ◌*◌, Charges, TreeView}
 use Rattle.shr_charge.specs.declared.answers.ChargeAnswer.TheVariants as charge
 use Rattle.shr_base.specs.Kept.{Kept}
-use Rattle.shr_charge.specs.declared.table.ChargeSeat.{ChargeSeat}
+use Rattle.shr_charge.specs.Seat.{ChargeSeated}
 use Rattle.shr_walk.specs.declared.seats.Seats.{Seats}
 use Rattle.shr_charge.proofs.Ways.{way_short}
 
@@ -19,7 +19,7 @@ few_ops k by group (charge.Over g operation usage) ops h =
     omega (arith, whole, up, ups, each, down, short)
 
 -- the operations of a charge are all that a try adds
-pub tried_once : (x : Shared) (by : Serial) (group : ℕ) (answer : ChargeAnswer) (s : Seats) (seat : ChargeSeat) (before after : Kept UseStep) → before.items ≡ s.cache.uses.items → Charges x.charge.shape by group answer s.cache.charge seat before after
+pub tried_once : (x : Shared) (by : Serial) (group : ℕ) (answer : ChargeAnswer) (s : Seats) (seat : ChargeSeated) (before after : Kept UseStep) → before.items ≡ s.cache.uses.items → Charges x.charge.shape by group answer s.cache.charge seat before after
     → IsChargeTried x by group answer (state_of s) (record (state_of s) { uses = uses_of seat; tree = tree_of seat; noted = after.items })
 tried_once x by group answer s seat before after same did = let n = does_none (state_of s) in let noted = did.noted in let now = record (state_of s) { uses = uses_of seat; tree = tree_of s.cache.charge; noted = after.items } in
     let does : Does (state_of s) now (charge_work did.ops) = record {

@@ -37,12 +37,7 @@ fn charge_once<R: Wait>(worker: &mut Worker<'_, R>, group: u16) -> Result<Charge
     let depth = worker.shared.tree.depth(group) as usize;
     let cache = &mut worker.seats.cache;
     cache.uses.reserve(3 * depth)?;
-    Ok(
-        worker
-            .shared
-            .charge
-            .charge(&mut cache.charge, &mut cache.uses, worker.by, group),
-    )
+    Ok(cache.charge.charge(&mut cache.uses, worker.by, group))
 }
 
 // Tries the charge, and after each refusal makes a round and tries it again.
@@ -81,7 +76,7 @@ fn charge_in_rounds<R: Wait>(worker: &mut Worker<'_, R>, group: u16) -> Result<C
 /// charge stands then, and the walks made up to there do. After `Charged` there is room to note
 /// that the charge is taken back.
 ///
-/// It may wait for others. The seat isn't worn out before (`Charge::spent` answered None).
+/// It may wait for others. The seat isn't worn out before (`ChargeSeat::spent` answered None).
 ///
 /// Linux: `try_charge_memcg` in mm/memcontrol.c with `try_to_free_mem_cgroup_pages` in mm/vmscan.c.
 /// There `do_try_to_free_pages` goes down the priorities in one call, and ends once enough was

@@ -16,10 +16,11 @@ pub use Rattle.shr_core.specs.Gained.{Adds, AreKinds, Gained, nothing, then_gain
 pub use Rattle.shr_core.specs.Layout.{place_id, places_in}
 pub use Rattle.shr_core.specs.Parts.{Claims, RoomContent, Counted, Dated, Hand, Holding, Known, Loaded, Made, Traces, Tried, Turn, no_claims, no_rooms}
 pub use Rattle.shr_core.specs.Rule.{HasLastEnd, has_room, is_some_of, mark_of, opener, pool_content}
-pub use Rattle.shr_core.specs.Seats.{IsMet, IsOf, shape_of, view_of}
+pub use Rattle.shr_core.specs.Seats.{IsMet, Seated, shape_of, view_of}
 pub use Rattle.shr_core.specs.Steps.{IsAtRest, IsCounted, MayPhase, content_in, dated_now, dating_of, in_hand, turn_at, undrained, with_content, with_given_up, with_leave, with_lookup, with_phase, with_pool_given, with_put, with_taken, with_word, without_id, without_room}
 pub use Rattle.shr_core.specs.Tells.{HasPool, IsOfPool, Raises, pool_of}
 pub use Rattle.shr_core.specs.declared.setting.Setting.{Setting}
+pub use Rattle.shr_core.specs.declared.table.Core.{Core}
 pub use Rattle.shr_core.specs.declared.view.View.{View}
 pub use Rattle.shr_model.specs.Places.{place_number}
 pub use Rattle.shr_model.specs.Pool.{decl_at, decl_of, from_of, is_live, is_live_below, is_live_decl, lowest_free, lowest_idle, phase_of, registrations}

@@ -1,7 +1,5 @@
 -- A seat is as free after a call as it was before.
-use Rattle.shr_registry.proofs.Common.{◌≡◌, ℕ, ◌<◌, List, [], ◌∷◌, sym, refl, ap, subst, ◌∙◌, arith, Serial, PoolEntry, times, View, Shape, Holding, no_rooms, Gained, Setting, IsOf, view_of, RegisterAnswer, Brings, IsFree, FindGives, RegisterGives, UnregisterGives, only_yes, IsAtRest, with_put, StaysFree}
-use Rattle.shr_core.specs.declared.table.Core.{Core}
-use Rattle.shr_core.specs.declared.seat.Seat.{Seat}
+use Rattle.shr_registry.proofs.Common.{◌≡◌, ℕ, List, sym, refl, subst, ◌∙◌, Serial, PoolEntry, View, Shape, Gained, Setting, RegisterAnswer, Brings, IsFree, FindGives, RegisterGives, UnregisterGives, with_put, StaysFree}
 use Rattle.shr_registry.specs.declared.answers.FindAnswer.TheVariants as find
 use Rattle.shr_registry.specs.declared.answers.RegisterAnswer.TheVariants as register
 use Rattle.shr_registry.specs.declared.answers.UnregisterAnswer.{UnregisterAnswer}
@@ -44,18 +42,3 @@ stays_then u v w a b = record { held = b.held; owner = b.owner; owed = λ k h. a
 
 pub free_still : (v w : View) → StaysFree v w → IsFree w
 free_still v w s = record { held = s.held; owner = s.owner }
-
--- a seat that was at rest is so still
-pub rests_still : (core : Core) (old new : Seat) → IsOf core new → IsAtRest (view_of old) → StaysFree (view_of old) (view_of new) → (view_of new).holding ≡ no_rooms → IsAtRest (view_of new)
-rests_still core old new is rest s none = record {
-  rooms = ap (λ (h : Holding). h.hands) none;
-  owed = no_owed (view_of new).marks.owed (λ k h. subst (λ l. 0 < times k l) rest.owed (s.owed k h));
-  may = is.may;
-  held = s.held;
-  probe = is.probe;
-  owner = s.owner;
-}
-  where
-    no_owed : (xs : List ℕ) → ((k : ℕ) → 0 < times k xs → 0 < times k []) → xs ≡ []
-    no_owed [] h = refl
-    no_owed (x ∷ xs) h = absurd (omega (arith, h x (omega (arith, only_yes x x refl))))

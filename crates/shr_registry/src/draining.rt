@@ -3,7 +3,7 @@
 ghost use Rattle.std.specs.Prelude.{◌≡◌, ◌<◌, true, Some};
 ghost use Rattle.shr_core.specs.Parts.{no_rooms};
 ghost use Rattle.shr_core.specs.Steps.{undrained};
-ghost use Rattle.shr_core.specs.Seats.{IsOf, view_of, shape_of};
+ghost use Rattle.shr_core.specs.Seats.{view_of, shape_of};
 ghost use Rattle.shr_registry.specs.Adding.{Loads};
 ghost use Rattle.shr_registry.specs.Ending.{EmptyGives};
 
@@ -12,7 +12,6 @@ use shr_base::objects::Object;
 use shr_base::places::Serial;
 use shr_base::replies::HalfWhy;
 use shr_core::seat::Seat;
-use shr_core::table::Core;
 use shr_node::answers::NodeDrain;
 use shr_node::draining::{NodeLists, drain};
 use std::sync::Wait;
@@ -21,16 +20,15 @@ use std::thread;
 /// Waits until a load shows that no seat holds the id that this seat owns.
 ///
 /// Linux: `wait_for_completion(&shrinker->done)` in `shrinker_free` of mm/shrinker.c.
-pub(crate) fn settle<R: Wait>(rt: &R, core: &Core, seat: &mut Seat, id: u16)
-    requires seat { IsOf core.now seat.old }
-    requires id { id < (shape_of core.now).ids }
+pub(crate) fn settle<R: Wait>(rt: &R, seat: &mut Seat<'_>, id: u16)
+    requires id { id < (shape_of seat.old.core).ids }
     requires owns { (view_of seat.old).claims.owner ≡ Some id }
-    ensures seat { IsOf core.now seat.new }
+    ensures table { seat.new.core ≡ seat.old.core }
     ensures loads { Loads (view_of seat.old) (view_of seat.new) }
     ensures quiet { (view_of seat.new).claims.quiet ≡ true }
 {
     for _ in rt.forever() {
-        if core.word_of(seat, id).refs == 0 {
+        if seat.word_of(id).refs == 0 {
             return;
         }
         thread::yield_now();
@@ -43,24 +41,22 @@ pub(crate) fn settle<R: Wait>(rt: &R, core: &Core, seat: &mut Seat, id: u16)
 /// Our own: Linux leaves the objects to the cache's owner.
 pub(crate) fn empty<R: Wait>(
     rt: &R,
-    core: &Core,
-    seat: &mut Seat,
+    seat: &mut Seat<'_>,
     id: u16,
     by: Serial,
     objects: &mut Log<Object>,
 ) -> Option<HalfWhy>
-    requires seat { IsOf core.now seat.old }
     requires rooms { (view_of seat.old).holding ≡ no_rooms }
-    requires id { id < (shape_of core.now).ids }
+    requires id { id < (shape_of seat.old.core).ids }
     requires owns { (view_of seat.old).claims.owner ≡ Some id }
     requires quiet { (view_of seat.old).claims.quiet ≡ true }
-    requires fresh { (view_of seat.old).claims.drained ≡ undrained (shape_of core.now) }
-    ensures seat { IsOf core.now seat.new }
-    ensures answer { EmptyGives (shape_of core.now) (view_of seat.old) id by objects.old.items
+    requires fresh { (view_of seat.old).claims.drained ≡ undrained (shape_of seat.old.core) }
+    ensures table { seat.new.core ≡ seat.old.core }
+    ensures answer { EmptyGives (shape_of seat.old.core) (view_of seat.old) id by objects.old.items
         result objects.new.items (view_of seat.new) }
 {
-    for node in 0..core.shape().nodes {
-        match drain(rt, core, seat, NodeLists { id, node }, by, objects) {
+    for node in 0..seat.core().shape().nodes {
+        match drain(rt, seat, NodeLists { id, node }, by, objects) {
             NodeDrain::Drained => {}
             NodeDrain::Worn { spent } => return Some(HalfWhy::Worn { spent }),
             NodeDrain::Memory => return Some(HalfWhy::Memory),

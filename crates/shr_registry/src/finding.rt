@@ -3,7 +3,7 @@
 ghost use Rattle.std.specs.Prelude.{◌≡◌, ◌<◌, ℕ, length};
 ghost use Rattle.shr_model.specs.Pool.{phase_of};
 ghost use Rattle.shr_core.specs.Parts.{no_rooms};
-ghost use Rattle.shr_core.specs.Seats.{IsOf, IsMet, view_of, shape_of};
+ghost use Rattle.shr_core.specs.Seats.{IsMet, view_of, shape_of};
 ghost use Rattle.shr_core.specs.Tells.{HasPool, pool_of};
 ghost use Rattle.shr_registry.specs.declared.answers.FindAnswer.TheVariants as found;
 ghost use Rattle.shr_registry.specs.Adding.{IsFree};
@@ -14,7 +14,6 @@ use crate::searching::live_id;
 use shr_base::replies::Spent;
 use shr_core::lookups::Lookup;
 use shr_core::seat::{Met, Seat};
-use shr_core::table::Core;
 use std::sync::Wait;
 
 // What is found with the pool in hand, and the phase of the id that is held.
@@ -24,27 +23,26 @@ struct Meeting {
 }
 
 // What is found with the pool in hand, after this many entries.
-fn meet(core: &Core, seat: &mut Seat, decl: u8, entry: u32) -> Meeting
-    requires seat { IsOf core.now seat.old }
-    requires pool { HasPool (shape_of core.now) (view_of seat.old) }
+fn meet(seat: &mut Seat<'_>, decl: u8, entry: u32) -> Meeting
+    requires pool { HasPool (shape_of seat.old.core) (view_of seat.old) }
     requires free { IsFree (view_of seat.old) }
-    requires entry { entry ≡ length (pool_of (shape_of core.now) (view_of seat.old)) }
-    ensures seat { IsOf core.now seat.new }
+    requires entry { entry ≡ length (pool_of (shape_of seat.old.core) (view_of seat.old)) }
+    ensures table { seat.new.core ≡ seat.old.core }
     ensures holding { (view_of seat.new).holding ≡ (view_of seat.old).holding }
     ensures known { (view_of seat.new).turns.known ≡ (view_of seat.old).turns.known }
-    ensures answer { FindGives (shape_of core.now) (view_of seat.old) decl
-        (pool_of (shape_of core.now) (view_of seat.old)) 0 result.answer (view_of seat.new) }
+    ensures answer { FindGives (shape_of seat.old.core) (view_of seat.old) decl
+        (pool_of (shape_of seat.old.core) (view_of seat.old)) 0 result.answer (view_of seat.new) }
     ensures phase { (id number entry : ℕ) → result.answer ≡ found.Held id number entry
-        → result.phase ≡ phase_of id (pool_of (shape_of core.now) (view_of seat.old)) }
+        → result.phase ≡ phase_of id (pool_of (shape_of seat.old.core) (view_of seat.old)) }
 {
-    let Some(id) = live_id(core, seat, decl) else {
+    let Some(id) = live_id(seat, decl) else {
         return Meeting {
             answer: FindAnswer::NoCache { entry },
             phase: 0,
         };
     };
-    let phase = core.word_of(seat, id).phase;
-    let answer = match core.lookup(seat, id) {
+    let phase = seat.word_of(id).phase;
+    let answer = match seat.lookup(id) {
         Lookup::Held { number, decl: _ } => FindAnswer::Held { id, number, entry },
         Lookup::Worn { seen } => FindAnswer::Worn {
             spent: Spent::Lookups { id, seen },
@@ -55,13 +53,11 @@ fn meet(core: &Core, seat: &mut Seat, decl: u8, entry: u32) -> Meeting
 }
 
 // The seat keeps the registration in which it found the id, by all that it knows of the journal.
-fn remember(core: &Core, seat: &mut Seat, decl: u8, met: Meeting) -> FindAnswer
-    requires seat { IsOf core.now seat.old }
+fn remember(seat: &mut Seat<'_>, decl: u8, met: Meeting) -> FindAnswer
     requires met { (id number entry : ℕ) → met.answer ≡ found.Held id number entry
-        → IsMet (shape_of core.now) (view_of seat.old).turns.known
+        → IsMet (shape_of seat.old.core) (view_of seat.old).turns.known
         (record { decl = decl; id = id; phase = met.phase; entry = entry }) }
-    ensures seat { IsOf core.now seat.new }
-    ensures same { view_of seat.new ≡ view_of seat.old }
+    ensures same { seat.new ≡ seat.old }
     ensures answer { result ≡ met.answer }
 {
     let Meeting { answer, phase } = met;
@@ -71,34 +67,30 @@ fn remember(core: &Core, seat: &mut Seat, decl: u8, met: Meeting) -> FindAnswer
         entry,
     } = answer
     {
-        core.keep(
-            seat,
-            Met {
-                decl,
-                id,
-                phase,
-                entry,
-            },
-        );
+        seat.keep(Met {
+            decl,
+            id,
+            phase,
+            entry,
+        });
     }
     answer
 }
 
 // Finds it by the pool's journal, whose room is taken.
-fn find_in_pool<R: Wait>(rt: &R, core: &Core, seat: &mut Seat, decl: u8) -> FindAnswer
-    requires seat { IsOf core.now seat.old }
+fn find_in_pool<R: Wait>(rt: &R, seat: &mut Seat<'_>, decl: u8) -> FindAnswer
     requires rooms { (view_of seat.old).holding ≡ no_rooms }
     requires free { IsFree (view_of seat.old) }
-    ensures seat { IsOf core.now seat.new }
+    ensures table { seat.new.core ≡ seat.old.core }
     ensures rooms { (view_of seat.new).holding ≡ no_rooms }
-    ensures answer { FindGives (shape_of core.now) (view_of seat.old) decl
+    ensures answer { FindGives (shape_of seat.old.core) (view_of seat.old) decl
         (view_of seat.new).turns.known 1 result (view_of seat.new) }
     ensures dated { IsDatedBy result (view_of seat.new) }
 {
-    let pool = core.take_pool(rt, seat);
-    let met = meet(core, seat, decl, pool.entries.len() as u32);
-    core.give_pool(seat, pool);
-    remember(core, seat, decl, met)
+    let pool = seat.take_pool(rt);
+    let met = meet(seat, decl, pool.entries.len() as u32);
+    seat.give_pool(pool);
+    remember(seat, decl, met)
 }
 
 /// Finds the id that is live with a declaration, and takes a reference to it. The seat holds
@@ -114,23 +106,22 @@ fn find_in_pool<R: Wait>(rt: &R, core: &Core, seat: &mut Seat, decl: u8) -> Find
 ///
 /// Linux: `idr_find` and `shrinker_try_get` in `shrink_slab_memcg` of mm/shrinker.c, where the id
 /// comes from the map.
-pub fn find<R: Wait>(rt: &R, core: &Core, seat: &mut Seat, decl: u8) -> FindAnswer
-    requires seat { IsOf core.now seat.old }
+pub fn find<R: Wait>(rt: &R, seat: &mut Seat<'_>, decl: u8) -> FindAnswer
     requires rooms { (view_of seat.old).holding ≡ no_rooms }
     requires free { IsFree (view_of seat.old) }
-    requires decl { decl < (shape_of core.now).decls }
-    ensures seat { IsOf core.now seat.new }
+    requires decl { decl < (shape_of seat.old.core).decls }
+    ensures table { seat.new.core ≡ seat.old.core }
     ensures rooms { (view_of seat.new).holding ≡ no_rooms }
-    ensures answer { FindGives (shape_of core.now) (view_of seat.old) decl
+    ensures answer { FindGives (shape_of seat.old.core) (view_of seat.old) decl
         (view_of seat.new).turns.known 1 result (view_of seat.new) }
     ensures dated { IsDatedBy result (view_of seat.new) }
 {
-    if let Some(again) = core.lookup_again(seat, decl) {
+    if let Some(again) = seat.lookup_again(decl) {
         return FindAnswer::Held {
             id: again.id,
             number: again.number,
             entry: again.entry,
         };
     }
-    find_in_pool(rt, core, seat, decl)
+    find_in_pool(rt, seat, decl)
 }

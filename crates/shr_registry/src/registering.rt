@@ -5,7 +5,7 @@ ghost use Rattle.shr_seats.specs.Standing.{IsWhole};
 ghost use Rattle.shr_seats.specs.Weights.{Begins};
 ghost use Rattle.shr_model.specs.Pool.{dying_in};
 ghost use Rattle.shr_core.specs.Parts.{no_rooms};
-ghost use Rattle.shr_core.specs.Seats.{IsOf, view_of, shape_of};
+ghost use Rattle.shr_core.specs.Seats.{view_of, shape_of};
 ghost use Rattle.shr_registry.specs.Adding.{only_pool, IsFree};
 ghost use Rattle.shr_registry.specs.Answers.{RegisterGives};
 
@@ -14,40 +14,38 @@ use crate::searching::{free_id, live_id};
 use shr_base::journals::PoolEntry;
 use shr_base::log::Log;
 use shr_core::seat::Seat;
-use shr_core::table::Core;
 use std::sync::Wait;
 
 // Registers a declaration with the pool in hand, whose journal is this one.
-fn enter(core: &Core, seat: &mut Seat, decl: u8, entries: &mut Log<PoolEntry>) -> RegisterAnswer
-    requires seat { IsOf core.now seat.old }
-    requires pool { (view_of seat.old).holding ≡ only_pool (shape_of core.now) entries.old.items }
+fn enter(seat: &mut Seat<'_>, decl: u8, entries: &mut Log<PoolEntry>) -> RegisterAnswer
+    requires pool { (view_of seat.old).holding ≡ only_pool (shape_of seat.old.core) entries.old.items }
     requires free { IsFree (view_of seat.old) }
-    requires decl { decl < (shape_of core.now).decls }
-    requires spare { dying_in (shape_of core.now).ids entries.old.items ≤ entries.old.spare }
-    requires few { length entries.old.items ≤ 65535 * (shape_of core.now).ids }
+    requires decl { decl < (shape_of seat.old.core).decls }
+    requires spare { dying_in (shape_of seat.old.core).ids entries.old.items ≤ entries.old.spare }
+    requires few { length entries.old.items ≤ 65535 * (shape_of seat.old.core).ids }
     requires seen { Begins (view_of seat.old).turns.known entries.old.items }
-    ensures seat { IsOf core.now seat.new }
-    ensures pool { (view_of seat.new).holding ≡ only_pool (shape_of core.now) entries.new.items }
-    ensures spare { dying_in (shape_of core.now).ids entries.new.items ≤ entries.new.spare }
+    ensures table { seat.new.core ≡ seat.old.core }
+    ensures pool { (view_of seat.new).holding ≡ only_pool (shape_of seat.old.core) entries.new.items }
+    ensures spare { dying_in (shape_of seat.old.core).ids entries.new.items ≤ entries.new.spare }
     ensures known { (view_of seat.new).turns.known ≡ (view_of seat.old).turns.known }
     ensures longer { Begins entries.old.items entries.new.items }
-    ensures answer { RegisterGives core.now.setting (view_of seat.old) decl entries.new.items 0
+    ensures answer { RegisterGives seat.old.core.setting (view_of seat.old) decl entries.new.items 0
         result (view_of seat.new) }
     ensures made { length entries.old.items ≤ length (view_of seat.old).turns.made
         → length entries.new.items ≤ length (view_of seat.new).turns.made }
 {
     let entry = entries.len() as u32;
-    if let Some(_live) = live_id(core, seat, decl) {
+    if let Some(_live) = live_id(seat, decl) {
         return RegisterAnswer::AlreadyRegistered { entry };
     }
-    let Some(id) = free_id(core, seat) else {
+    let Some(id) = free_id(seat) else {
         return RegisterAnswer::NoId { entry };
     };
     // Beside the new entry the journal keeps a spare for each id that is dying.
-    let Ok(()) = entries.reserve(core.shape().ids as usize + 1) else {
+    let Ok(()) = entries.reserve(seat.core().shape().ids as usize + 1) else {
         return RegisterAnswer::Memory;
     };
-    let word = core.phase(seat, id, decl);
+    let word = seat.phase(id, decl);
     entries.push(PoolEntry::Registered {
         decl,
         id,
@@ -65,22 +63,21 @@ fn enter(core: &Core, seat: &mut Seat, decl: u8, entries: &mut Log<PoolEntry>) -
 ///
 /// Linux: `shrinker_alloc` and `shrinker_register` in mm/shrinker.c. There an id comes from the idr
 /// at the allocation, and a shrinker is registered once.
-pub fn register<R: Wait>(rt: &R, core: &Core, seat: &mut Seat, decl: u8) -> RegisterAnswer
-    requires seat { IsOf core.now seat.old }
+pub fn register<R: Wait>(rt: &R, seat: &mut Seat<'_>, decl: u8) -> RegisterAnswer
     requires rooms { (view_of seat.old).holding ≡ no_rooms }
     requires free { IsFree (view_of seat.old) }
-    requires decl { decl < (shape_of core.now).decls }
-    ensures seat { IsOf core.now seat.new }
+    requires decl { decl < (shape_of seat.old.core).decls }
+    ensures table { seat.new.core ≡ seat.old.core }
     ensures rooms { (view_of seat.new).holding ≡ no_rooms }
-    ensures answer { RegisterGives core.now.setting (view_of seat.old) decl
+    ensures answer { RegisterGives seat.old.core.setting (view_of seat.old) decl
         (view_of seat.new).turns.known 1 result (view_of seat.new) }
     // A seat that is alone has made all that it then knows.
     ensures alone { (view_of seat.old).standing.first ≡ true
         → IsWhole (view_of seat.old).standing
         → length (view_of seat.new).turns.known ≤ length (view_of seat.new).turns.made }
 {
-    let mut pool = core.take_pool(rt, seat);
-    let answer = enter(core, seat, decl, &mut pool.entries);
-    core.give_pool(seat, pool);
+    let mut pool = seat.take_pool(rt);
+    let answer = enter(seat, decl, &mut pool.entries);
+    seat.give_pool(pool);
     answer
 }

@@ -2,7 +2,7 @@
 
 ghost use Rattle.std.specs.Prelude.{◌≡◌, ◌<◌};
 ghost use Rattle.shr_core.specs.Parts.{no_rooms};
-ghost use Rattle.shr_core.specs.Seats.{IsOf, view_of, shape_of};
+ghost use Rattle.shr_core.specs.Seats.{view_of, shape_of};
 ghost use Rattle.shr_registry.specs.Adding.{IsFree};
 ghost use Rattle.shr_registry.specs.Ending.{UnregisterGives};
 
@@ -12,7 +12,6 @@ use crate::retiring::{Retired, make_idle, retire};
 use shr_base::log::Log;
 use shr_base::places::Serial;
 use shr_core::seat::Seat;
-use shr_core::table::Core;
 use std::sync::Wait;
 
 /// Unregisters a cache by its declaration: makes its id dying, waits until a load shows that no
@@ -26,23 +25,16 @@ use std::sync::Wait;
 ///
 /// Linux: `shrinker_free` in mm/shrinker.c, which waits for `shrinker->done` and leaves the objects
 /// to the cache's owner.
-pub fn unregister<R: Wait>(
-    rt: &R,
-    core: &Core,
-    seat: &mut Seat,
-    decl: u8,
-    by: Serial,
-) -> UnregisterAnswer
-    requires seat { IsOf core.now seat.old }
+pub fn unregister<R: Wait>(rt: &R, seat: &mut Seat<'_>, decl: u8, by: Serial) -> UnregisterAnswer
     requires rooms { (view_of seat.old).holding ≡ no_rooms }
     requires free { IsFree (view_of seat.old) }
-    requires decl { decl < (shape_of core.now).decls }
-    ensures seat { IsOf core.now seat.new }
+    requires decl { decl < (shape_of seat.old.core).decls }
+    ensures table { seat.new.core ≡ seat.old.core }
     ensures rooms { (view_of seat.new).holding ≡ no_rooms }
-    ensures answer { UnregisterGives (shape_of core.now) (view_of seat.old) decl by result
+    ensures answer { UnregisterGives (shape_of seat.old.core) (view_of seat.old) decl by result
         (view_of seat.new) }
 {
-    match retire(rt, core, seat, decl) {
+    match retire(rt, seat, decl) {
         Retired::NoCache { entry } => UnregisterAnswer::NoCache { entry },
         Retired::Memory => UnregisterAnswer::Memory,
         Retired::Dying {
@@ -51,10 +43,10 @@ pub fn unregister<R: Wait>(
             from,
             to,
         } => {
-            settle(rt, core, seat, id);
-            let mut objects = Log::new(core.alloc);
-            if let Some(why) = empty(rt, core, seat, id, by, &mut objects) {
-                core.give_up(seat, id);
+            settle(rt, seat, id);
+            let mut objects = Log::new(seat.core().alloc);
+            if let Some(why) = empty(rt, seat, id, by, &mut objects) {
+                seat.give_up(id);
                 return UnregisterAnswer::Half {
                     id,
                     entry,
@@ -64,7 +56,7 @@ pub fn unregister<R: Wait>(
                     why,
                 };
             }
-            make_idle(rt, core, seat, id);
+            make_idle(rt, seat, id);
             UnregisterAnswer::Freed {
                 id,
                 entry,

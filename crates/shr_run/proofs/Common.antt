@@ -14,8 +14,8 @@ pub use Rattle.shr_base.specs.declared.scripts.Sweep.{Sweep}
 pub use Rattle.shr_base.specs.declared.scripts.WorkerScript.{WorkerScript}
 pub use Rattle.shr_core.specs.Seats.{shape_of, view_of}
 pub use Rattle.shr_core.specs.declared.view.View.{View}
-pub use Rattle.shr_plain.specs.declared.table.PlainSeat.{PlainSeat}
-pub use Rattle.shr_plain.specs.declared.table.Pools.{Pools}
+pub use Rattle.shr_plain.specs.Opening.{ArePoolsOf}
+pub use Rattle.shr_plain.specs.Seat.{PlainSeated}
 pub use Rattle.shr_pool.specs.Lines.{queue_line}
 pub use Rattle.shr_pool.specs.declared.items.SweepItem.{SweepItem}
 pub use Rattle.shr_pool.specs.declared.jobs.JobQueue.{JobQueue}
@@ -24,16 +24,18 @@ pub use Rattle.shr_report.specs.Parts.{parents_of}
 pub use Rattle.shr_script.proofs.BoundsLaws.{within_of_valid}
 pub use Rattle.shr_script.specs.Content.{content_of}
 pub use Rattle.shr_seats.specs.Standing.{IsWhole, Standing, at_first}
+pub use Rattle.shr_tables.specs.Firsts.{AreFirst, AreFirstIn, HasLeft, Held, held_by, held_in}
 pub use Rattle.shr_tables.specs.Opened.{AreEntered, AreReady, EntersIf, IsPlainReady, is_on}
-pub use Rattle.shr_tables.specs.Parted.{AreFirst, AreJoined, AreNew, AreParted, AreSplit, IsPlainFirst, IsPlainJoined, IsPlainNew, IsPlainParted, IsPlainSplit}
+pub use Rattle.shr_tables.specs.Parted.{AreJoined, AreNew, AreParted, AreSplit}
 pub use Rattle.shr_tables.specs.declared.ending.Ends.{Ends}
 pub use Rattle.shr_tables.specs.declared.tables.CrewSeats.{CrewSeats}
-pub use Rattle.shr_walk.specs.Sharing.{IsFromStart, IsShared}
+pub use Rattle.shr_tables.specs.declared.tables.FirstCrew.{FirstCrew}
+pub use Rattle.shr_tables.specs.declared.tables.Tables.{Tables}
+pub use Rattle.shr_walk.specs.Sharing.{HaveLeft, IsFromStart, IsShared, seats_at}
 pub use Rattle.shr_walk.specs.declared.seats.Shared.{Shared}
 pub use Rattle.shr_worker.specs.Chain.{CrewState, IsWorkOf, listed_commands, worker_commands, command_serial}
-pub use Rattle.shr_worker.specs.declared.tasks.Task.{Task}
 pub use Rattle.shr_worker.specs.declared.tasks.WorkerResult.{WorkerResult}
-pub use Rattle.shr_run.specs.Joins.{AreJoinedAll, IsAtEnd, firsts_of, last_of, log_of}
-pub use Rattle.shr_run.specs.Sweeps.{AreOnce, HasAnswered, HasHelpedOut, HasPass, HasSweptAt, HaveHelpedOut, HaveSwept, IsWorkerDone, IsPassBack, IsHelperReady, SweepsIf, handed_out, popped_of, worker_of}
-pub use Rattle.shr_run.specs.Tasks.{AreSplitOff, AreTasks, HaveRun, IsPlainSplitOff, IsTaskOf}
-pub use Rattle.shr_run.specs.declared.sweeping.Helper.{Helper}
+pub use Rattle.shr_run.specs.Joins.{AreJoinedAll, IsAtEnd, firsts_of, last_of, log_of, seats_in}
+pub use Rattle.shr_run.specs.Sweeps.{AreOnce, HasAnswered, HasHelpedOut, HasPass, HasSweptAt, HaveHelpedOut, HaveSwept, IsWorkerDone, IsPassBack, IsHelperReady, Helping, SweepsIf, handed_out, helped_of, popped_of, worker_of}
+pub use Rattle.shr_run.specs.Tasks.{AreSplitOff, AreTasks, HaveRun, IsTaskOf, Starting}
+pub use Rattle.shr_run.specs.declared.sweeping.Helped.{Helped}

@@ -1,18 +1,18 @@
 -- The tasks that are run one after another: those that are left, and what the others gave.
-use Rattle.shr_run.proofs.Common.{◌≡◌, ℕ, suc, ◌+◌, ◌<◌, ◌≤◌, List, [], ◌∷◌, ◌++◌, length, length-append, refl, sym, ap, subst, ◌∙◌, arith, append_assoc, append-nil, inl, inr, slice_get, Some, none-some, slice_get_within, Pools, Shared, Task, WorkerResult, HaveRun}
+use Rattle.shr_run.proofs.Common.{◌≡◌, ℕ, suc, ◌+◌, ◌<◌, ◌≤◌, List, [], ◌∷◌, ◌++◌, length, length-append, refl, sym, ap, subst, ◌∙◌, arith, append_assoc, append-nil, inl, inr, slice_get, Some, none-some, slice_get_within, Starting, WorkerResult, HaveRun}
 use Rattle.std.proofs.Math.Nat.{eq-or-lt_of_le}
 use Rattle.shr_run.specs.Tasks.{HasRun}
 use Rattle.shr_worker.proofs.Worked.{get_front, get_last}
 
 -- the tasks in front of those that are left were run, with these results
-pub record HasRunFront (x : Shared) (p : Pools) (left all : List Task) (results : List WorkerResult) : Type 0 where
-  pub done : List Task
+pub record HasRunFront (left all : List Starting) (results : List WorkerResult) : Type 0 where
+  pub done : List Starting
   pub parts : done ++ left ≡ all
   pub count : length done ≡ length results
-  pub run : HaveRun x p done results
+  pub run : HaveRun done results
 
-pub front_none : (x : Shared) (p : Pools) (all : List Task) (results : List WorkerResult) → results ≡ [] → HasRunFront x p all all results
-front_none x p all results none = record {
+pub front_none : (all : List Starting) (results : List WorkerResult) → results ≡ [] → HasRunFront all all results
+front_none all results none = record {
   done = [];
   parts = refl;
   count = sym (ap (λ (l : List WorkerResult). length l) none);
@@ -20,10 +20,10 @@ front_none x p all results none = record {
 }
 
 -- two lists, with one element more at the end of each
-one_more : (x : Shared) (p : Pools) (done : List Task) (results : List WorkerResult) (t : Task) (w : WorkerResult) → length done ≡ length results
-    → HasRun x p t w → HaveRun x p done results → HaveRun x p (done ++ t ∷ []) (results ++ w ∷ [])
-one_more x p done results t w count one all i u v at there = elim (eq-or-lt_of_le within) as (λ _. HasRun x p u v) [
-  | inl last ↦ subst (HasRun x p u) (same_result last) (subst (λ (z : Task). HasRun x p z w) (same_task last) one)
+one_more : (done : List Starting) (results : List WorkerResult) (t : Starting) (w : WorkerResult) → length done ≡ length results
+    → HasRun t w → HaveRun done results → HaveRun (done ++ t ∷ []) (results ++ w ∷ [])
+one_more done results t w count one all i u v at there = elim (eq-or-lt_of_le within) as (λ _. HasRun u v) [
+  | inl last ↦ subst (HasRun u) (same_result last) (subst (λ (z : Starting). HasRun z w) (same_task last) one)
   | inr early ↦ all i u v (sym (get_front done t i early) ∙ at) (sym (get_front results w i (omega (arith, early, count))) ∙ there)
 ] where
   within : i ≤ length done
@@ -35,17 +35,17 @@ one_more x p done results t w count one all i u v at there = elim (eq-or-lt_of_l
   same_result : i ≡ length done → w ≡ v
   same_result last = let e : Some w ≡ Some v = sym (get_last results w) ∙ (ap (slice_get (results ++ w ∷ [])) (sym (last ∙ count)) ∙ there) in cc
 
-pub front_more : (x : Shared) (p : Pools) (left rest all : List Task) (results more : List WorkerResult) (t : Task) (w : WorkerResult) → left ≡ t ∷ rest → more ≡ results ++ w ∷ []
-    → HasRun x p t w → HasRunFront x p left all results → HasRunFront x p rest all more
-front_more x p left rest all results more t w next is one f = record {
+pub front_more : (left rest all : List Starting) (results more : List WorkerResult) (t : Starting) (w : WorkerResult) → left ≡ t ∷ rest → more ≡ results ++ w ∷ []
+    → HasRun t w → HasRunFront left all results → HasRunFront rest all more
+front_more left rest all results more t w next is one f = record {
   done = f.done ++ t ∷ [];
   parts = append_assoc f.done (t ∷ []) rest ∙ (ap (λ l. f.done ++ l) (sym next) ∙ f.parts);
   count = let long = ap (λ (l : List WorkerResult). length l) is in let tasks = length-append f.done (t ∷ []) in let parts = length-append results (w ∷ []) in let count = f.count in omega (arith, long, tasks, parts, count);
-  run = subst (HaveRun x p (f.done ++ t ∷ [])) (sym is) (one_more x p f.done results t w f.count one f.run);
+  run = subst (HaveRun (f.done ++ t ∷ [])) (sym is) (one_more f.done results t w f.count one f.run);
 }
 
 -- none is left
-pub front_all : (x : Shared) (p : Pools) (left all : List Task) (results : List WorkerResult) → length left ≡ 0 → HasRunFront x p left all results → HaveRun x p all results × (length results ≡ length all)
-front_all x p [] all results none f = let whole = sym (append-nil f.done) ∙ f.parts in
-    (subst (λ (l : List Task). HaveRun x p l results) whole f.run, sym f.count ∙ ap (λ (l : List Task). length l) whole)
-front_all x p (t ∷ left) all results none f = absurd (omega (arith, none))
+pub front_all : (left all : List Starting) (results : List WorkerResult) → length left ≡ 0 → HasRunFront left all results → HaveRun all results × (length results ≡ length all)
+front_all [] all results none f = let whole = sym (append-nil f.done) ∙ f.parts in
+    (subst (λ (l : List Starting). HaveRun l results) whole f.run, sym f.count ∙ ap (λ (l : List Starting). length l) whole)
+front_all (t ∷ left) all results none f = absurd (omega (arith, none))

@@ -4,6 +4,7 @@ use Rattle.shr_base.specs.declared.replies.Answered.{Answered}
 use Rattle.shr_base.specs.declared.scripts.Sweep.{Sweep}
 use Rattle.shr_seats.specs.Standing.{at_first, at_split}
 use Rattle.shr_pool.specs.declared.items.SweepItem.{SweepItem}
+use Rattle.shr_pool.specs.declared.jobs.JobPass.{JobPass}
 use Rattle.shr_pool.specs.declared.jobs.JobQueue.{JobQueue}
 use Rattle.shr_pool.specs.declared.view.PassView.{PassView}
 use Rattle.shr_pool.specs.Passes as passes
@@ -11,27 +12,38 @@ use Rattle.shr_pool.specs.Worked.{AreEachOnce}
 use Rattle.shr_sweep.specs.declared.answers.SweepAnswer.{SweepAnswer}
 use Rattle.shr_sweep.specs.Helping.{HelpGives, IsLineWithin}
 use Rattle.shr_walk.specs.declared.seats.Shared.{Shared}
+use Rattle.shr_walk.specs.Acting.{IsFit}
 use Rattle.shr_walk.specs.State.{IsRested, state_of}
 use Rattle.shr_worker.specs.declared.tasks.WorkerResult.{WorkerResult}
 use Rattle.shr_worker.specs.Chain.{command_serial}
 use Rattle.shr_worker.specs.Replies.{unfound}
 use Rattle.shr_assemble.specs.Ends.{HasHelped, sweep_reply}
 use Rattle.shr_lawful.specs.Sweeps.{ArePoppedOnce, all_popped}
-use Rattle.shr_run.specs.declared.sweeping.Helper.{Helper}
+use Rattle.shr_run.specs.declared.sweeping.Helped.{Helped}
 use Rattle.shr_run.specs.Joins.{last_of}
 
--- a worker's seats hold nothing, and where its result is whole it has no more answers than a script has commands
+-- a worker's seats are of the tables and hold nothing, and where its result is whole it has no more answers than a script has commands
 pub record IsWorkerDone (x : Shared) (w : WorkerResult) : Type 0 where
-  pub rested : IsRested x w.seats
+  pub fit : IsFit x w.seats
   pub few : IsTrue w.whole → length w.answers.items ≤ 20000
 
--- the worker that helps, and what its pass popped
-abbrev pub worker_of : Helper → WorkerResult
+-- a worker that is to help, its pass, and the tables that it runs with
+pub record Helping : Type 0 where
+  pub shared : Shared
+  pub worker : WorkerResult
+  pub pass : JobPass
+
+-- the worker that is to help
+abbrev pub worker_of : Helping → WorkerResult
 worker_of h = h.worker
 
+-- and the one that has helped
+abbrev pub helped_of : Helped → WorkerResult
+helped_of k = k.worker
+
 -- the items that a helper took from the queue
-abbrev pub popped_of : Helper → List SweepItem
-popped_of h = (passes.pass_view h.pass).popped
+abbrev pub popped_of : Helped → List SweepItem
+popped_of k = (passes.pass_view k.pass).popped
 
 -- a pass that was handed out, of a queue into which these items were pushed
 abbrev pub new_pass : List SweepItem → PassView
@@ -41,44 +53,42 @@ new_pass pushed = record { pushed = pushed; popped = []; standing = at_split }
 abbrev pub handed_out : List SweepItem → ℕ → PassView
 handed_out pushed splits = record { pushed = pushed; popped = []; standing = record at_first { splits = splits } }
 
--- its pass is a new one of this queue
-pub record HasPass (q : JobQueue) (pushed : List SweepItem) (h : Helper) : Type 0 where
+-- it is to run with these tables, and its pass is a new one of this queue
+pub record HasPass (x : Shared) (q : JobQueue) (pushed : List SweepItem) (h : Helping) : Type 0 where
+  pub shared : h.shared ≡ x
   pub pass : passes.IsJobPass q h.pass
   pub view : passes.pass_view h.pass ≡ new_pass pushed
 
 -- a helper that may begin
-pub record IsHelperReady (x : Shared) (q : JobQueue) (h : Helper) : Type 0 where
-  pub done : IsWorkerDone x h.worker
+pub record IsHelperReady (q : JobQueue) (h : Helping) : Type 0 where
+  pub done : IsWorkerDone h.shared h.worker
   pub whole : IsTrue h.worker.whole
-  pub pass : passes.IsJobPass q h.pass
-  pub helper : passes.IsHelper (passes.pass_view h.pass)
+  pub pass : passes.IsHandedOut q h.pass
   pub fresh : (passes.pass_view h.pass).popped ≡ []
-  pub line : IsLineWithin x (passes.pass_view h.pass)
+  pub line : IsLineWithin h.shared (passes.pass_view h.pass)
 
 -- it has one answer more, and what it did was this
-pub record HasAnswered (x : Shared) (z : Sweep) (h k : Helper) : Type 0 where
+pub record HasAnswered (z : Sweep) (h : Helping) (k : Helped) : Type 0 where
   pub answer : SweepAnswer
   pub answers : k.worker.answers.items ≡ h.worker.answers.items ++ unfound (sweep_reply answer) ∷ []
-  pub gives : HelpGives x (command_serial h.worker.number (length h.worker.answers.items)) z.priority z.nofs answer (passes.pass_view h.pass) (passes.pass_view k.pass) (state_of h.worker.seats) (state_of k.worker.seats)
+  pub gives : HelpGives h.shared (command_serial h.worker.number (length h.worker.answers.items)) z.priority z.nofs answer (passes.pass_view h.pass) (passes.pass_view k.pass) (state_of h.worker.seats) (state_of k.worker.seats)
 
 -- A helper is done: its seats hold nothing and owe nothing, and where its result is whole it has answered.
-pub record HasHelpedOut (x : Shared) (q : JobQueue) (z : Sweep) (h k : Helper) : Type 0 where
+pub record HasHelpedOut (q : JobQueue) (z : Sweep) (h : Helping) (k : Helped) : Type 0 where
   pub number : k.worker.number ≡ h.worker.number
   pub plain : k.worker.plain ≡ h.worker.plain
   pub isolations : k.worker.isolations.items ≡ h.worker.isolations.items
-  pub rested : IsRested x k.worker.seats
-  pub pass : passes.IsJobPass q k.pass
-  pub helper : passes.IsHelper (passes.pass_view k.pass)
-  pub whole : IsTrue k.worker.whole → HasAnswered x z h k
+  pub rested : IsRested h.shared k.worker.seats
+  pub pass : passes.IsHandedOut q k.pass
+  pub whole : IsTrue k.worker.whole → HasAnswered z h k
 
 -- each did
-abbrev pub HaveHelpedOut : Shared → JobQueue → Sweep → List Helper → List Helper → Type 0
-HaveHelpedOut x q z hs ks = (i : ℕ) (h k : Helper) → slice_get hs i ≡ Some h → slice_get ks i ≡ Some k → HasHelpedOut x q z h k
+abbrev pub HaveHelpedOut : JobQueue → Sweep → List Helping → List Helped → Type 0
+HaveHelpedOut q z hs ks = (i : ℕ) (h : Helping) (k : Helped) → slice_get hs i ≡ Some h → slice_get ks i ≡ Some k → HasHelpedOut q z h k
 
 -- a pass of this queue that may be joined
-pub record IsPassBack (q : JobQueue) (h : Helper) : Type 0 where
-  pub pass : passes.IsJobPass q h.pass
-  pub helper : passes.IsHelper (passes.pass_view h.pass)
+abbrev pub IsPassBack : JobQueue → Helped → Type 0
+IsPassBack q k = passes.IsHandedOut q k.pass
 
 -- what these passes popped, no job twice, and all where one popped a mark
 pub record AreOnce (nodes groups : ℕ) (popped : List SweepItem) : Type 0 where

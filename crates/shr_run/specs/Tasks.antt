@@ -6,14 +6,14 @@ use Rattle.shr_charge.specs.Seat.{uses_of, tree_of}
 use Rattle.shr_charge.specs.Views.{own_uses, no_tree}
 use Rattle.shr_deferred.specs.Seat.{moves_of, strands_of}
 use Rattle.shr_deferred.specs.Moves.{no_moves}
-use Rattle.shr_plain.specs.declared.table.Pools.{Pools}
-use Rattle.shr_plain.specs.declared.table.PlainSeat.{PlainSeat}
-use Rattle.shr_plain.specs.Seat.{IsPlainSeat, no_state}
+use Rattle.shr_plain.specs.Seat.{no_state}
 use Rattle.shr_plain.specs.Seat as plain
-use Rattle.shr_walk.specs.declared.seats.Seats.{Seats}
 use Rattle.shr_walk.specs.declared.seats.Shared.{Shared}
 use Rattle.shr_walk.specs.State.{IsRested}
-use Rattle.shr_tables.specs.Parted.{AreFirst, AreParted, IsPlainFirst, IsPlainParted}
+use Rattle.shr_tables.specs.declared.tables.CrewSeats.{CrewSeats}
+use Rattle.shr_tables.specs.declared.tables.Tables.{Tables}
+use Rattle.shr_tables.specs.Firsts.{AreFirst, held_by, held_in}
+use Rattle.shr_tables.specs.Parted.{AreParted}
 use Rattle.shr_worker.specs.declared.tasks.Task.{Task}
 use Rattle.shr_worker.specs.declared.tasks.WorkerResult.{WorkerResult}
 use Rattle.shr_worker.specs.Chain.{IsWorkOf, worker_commands, crew_of}
@@ -21,39 +21,42 @@ use Rattle.shr_worker.specs.Tasks.{IsTask}
 use Rattle.shr_assemble.specs.Ends.{new_worker}
 
 -- the first seats were split so often since the caches were registered, and did nothing else
-pub record AreSplitOff (x : Shared) (opened : View) (splits : ℕ) (first : Seats) : Type 0 where
-  pub first_seats : AreFirst x first
+pub record AreSplitOff (x : Tables) (opened : View) (splits : ℕ) (first : CrewSeats) : Type 0 where
+  pub tables : held_by first ≡ held_in x
+  pub first_seats : AreFirst first
   pub parted : AreParted first splits 0
-  pub core : view_of first.cache.core ≡ record opened { standing = (view_of first.cache.core).standing }
-  pub uses : uses_of first.cache.charge ≡ own_uses
-  pub tree : tree_of first.cache.charge ≡ no_tree
-  pub moves : moves_of first.deferred ≡ no_moves
-  pub strands : strands_of first.deferred ≡ no_moves ∷ []
+  pub core : view_of first.seats.cache.core ≡ record opened { standing = (view_of first.seats.cache.core).standing }
+  pub uses : uses_of first.seats.cache.charge ≡ own_uses
+  pub tree : tree_of first.seats.cache.charge ≡ no_tree
+  pub moves : moves_of first.seats.deferred ≡ no_moves
+  pub strands : strands_of first.seats.deferred ≡ no_moves ∷ []
+  pub state : plain.plain_state_of first.plain ≡ no_state
 
--- the first seat of the pools was split so often, and did nothing
-pub record IsPlainSplitOff (p : Pools) (splits : ℕ) (first : PlainSeat) : Type 0 where
-  pub first_seat : IsPlainFirst p first
-  pub parted : IsPlainParted first splits 0
-  pub state : plain.plain_state_of first ≡ no_state
+-- a worker that can start: its task, and the tables that it runs with
+pub record Starting : Type 0 where
+  pub shared : Shared
+  pub task : Task
 
--- a task of the worker with this number, with new seats
-pub record IsTaskOf (x : Shared) (p : Pools) (opened : View) (number : ℕ) (task : Task) : Type 0 where
-  pub numbered : task.number ≡ number
-  pub task_is : IsTask x p task
-  pub new : crew_of task.seats task.plain [] ≡ new_worker opened number
+-- that of the worker with this number, with new seats
+pub record IsTaskOf (x : Tables) (opened : View) (number : ℕ) (s : Starting) : Type 0 where
+  pub shared : s.shared ≡ x.shared
+  pub numbered : s.task.number ≡ number
+  pub task_is : IsTask x.shared s.task
+  pub pools : s.task.plain.pools ≡ x.pools
+  pub new : crew_of s.task.seats s.task.plain [] ≡ new_worker opened number
 
--- a task for each of the first workers
-abbrev pub AreTasks : Shared → Pools → View → List Task → Type 0
-AreTasks x p opened tasks = (i : ℕ) (t : Task) → slice_get tasks i ≡ Some t → IsTaskOf x p opened i t
+-- one for each of the first workers
+abbrev pub AreTasks : Tables → View → List Starting → Type 0
+AreTasks x opened starts = (i : ℕ) (s : Starting) → slice_get starts i ≡ Some s → IsTaskOf x opened i s
 
 -- a worker ran its task to the end: its seats hold nothing, and where its result is whole it answered each command
-pub record HasRun (x : Shared) (p : Pools) (task : Task) (w : WorkerResult) : Type 0 where
-  pub number : w.number ≡ task.number
-  pub rested : IsRested x w.seats
-  pub plain_seat : IsPlainSeat p w.plain
-  pub all : IsTrue w.whole → length w.answers.items ≡ length (worker_commands x.script task.number)
-  pub work : IsTrue w.whole → IsWorkOf x task.number w.answers.items (crew_of task.seats task.plain []) (crew_of w.seats w.plain w.isolations.items)
+pub record HasRun (s : Starting) (w : WorkerResult) : Type 0 where
+  pub number : w.number ≡ s.task.number
+  pub rested : IsRested s.shared w.seats
+  pub pools : w.plain.pools ≡ s.task.plain.pools
+  pub all : IsTrue w.whole → length w.answers.items ≡ length (worker_commands s.shared.script s.task.number)
+  pub work : IsTrue w.whole → IsWorkOf s.shared s.task.number w.answers.items (crew_of s.task.seats s.task.plain []) (crew_of w.seats w.plain w.isolations.items)
 
 -- each of these results is that of the task at its place
-abbrev pub HaveRun : Shared → Pools → List Task → List WorkerResult → Type 0
-HaveRun x p tasks results = (i : ℕ) (t : Task) (w : WorkerResult) → slice_get tasks i ≡ Some t → slice_get results i ≡ Some w → HasRun x p t w
+abbrev pub HaveRun : List Starting → List WorkerResult → Type 0
+HaveRun starts results = (i : ℕ) (s : Starting) (w : WorkerResult) → slice_get starts i ≡ Some s → slice_get results i ≡ Some w → HasRun s w

@@ -1,33 +1,29 @@
 //! The workers' seats, joined once they are done.
 
 ghost use Rattle.std.specs.Prelude.{◌≡◌, IfOk, OnOk, All, IsTrue, map};
-ghost use Rattle.shr_tables.specs.Parted.{AreFirst, IsPlainFirst};
+ghost use Rattle.shr_tables.specs.Firsts.{AreFirst, held_by};
 ghost use Rattle.shr_run.specs.Joins.{IsAtEnd, AreJoinedAll, log_of};
 
 use shr_assemble::logs::WorkerLog;
 use shr_base::memory::Memory;
-use shr_tables::parting::{Notes, join};
-use shr_tables::tables::{CrewSeats, Tables};
+use shr_tables::parting::Notes;
+use shr_tables::tables::CrewSeats;
 use shr_worker::tasks::WorkerResult;
 use std::alloc::Global;
 
 /// Joins the seats of all workers into the first ones, in order, and gives what each worker
 /// answered and noted. `Memory` comes for want of memory, here or in a worker. Our own.
-pub(crate) fn join_all(
+pub(crate) fn join_all<'a>(
     alloc: Global,
-    tables: &Tables,
-    first: &mut CrewSeats,
-    results: Vec<WorkerResult>,
+    first: &mut CrewSeats<'a>,
+    results: Vec<WorkerResult<'a>>,
 ) -> Result<Vec<WorkerLog>, Memory>
-    requires first { AreFirst tables.now.shared first.old.seats }
-    requires plain { IsPlainFirst tables.now.pools first.old.plain }
-    requires results { All (λ (w : WorkerResult). IsAtEnd tables.now.shared tables.now.pools w)
-        results.items }
-    ensures first { OnOk result (AreFirst tables.now.shared first.new.seats) }
-    ensures plain { OnOk result (IsPlainFirst tables.now.pools first.new.plain) }
-    ensures joined { OnOk result (AreJoinedAll first.old results.items first.new) }
-    ensures whole { OnOk result (All (λ (w : WorkerResult). IsTrue w.whole) results.items) }
-    ensures logs { IfOk result (λ logs. logs.items ≡ map log_of results.items) }
+    requires first { AreFirst first.old }
+    requires results { All (IsAtEnd (held_by first.old)) results.items }
+    ensures first { OnOk result (AreFirst first.new) }
+    ensures joined { OnOk result (AreJoinedAll first.old results.entry.items first.new) }
+    ensures whole { OnOk result (All (λ (w : WorkerResult). IsTrue w.whole) results.entry.items) }
+    ensures logs { IfOk result (λ logs. logs.items ≡ map log_of results.entry.items) }
 {
     let mut logs = Vec::new(alloc);
     for worker in results {
@@ -47,7 +43,7 @@ pub(crate) fn join_all(
             carries,
             uses,
             plain,
-        } = join(tables, first, CrewSeats { seats, plain });
+        } = first.join(CrewSeats { seats, plain });
         logs.push(WorkerLog {
             answers,
             walks,

@@ -39,11 +39,13 @@ pub(crate) fn run<R: Threads + Wait + Sync, G: Gate + Sync>(
     ensures script { IfOk result (λ ran. ran.ends.script ≡ script) }
     ensures ran { IfOk result (λ ran. AreEnds ran.logs.items ran.ends) }
 {
-    let (tables, mut first) = open(rt, alloc, script)?;
-    let tasks = split_all(alloc, &tables, &mut first)?;
-    let results = run_all(rt, alloc, &tables, tasks, gate)?;
-    let swept = sweep_if(rt, alloc, &tables, results, gate)?;
-    let logs = join_all(alloc, &tables, &mut first, swept)?;
+    let (tables, first) = open(rt, alloc, script)?;
+    let mut crew = first.at(&tables);
+    let starts = split_all(rt, alloc, &tables, &mut crew)?;
+    let results = run_all(rt, alloc, starts, gate)?;
+    let swept = sweep_if(rt, alloc, &tables.shared, results, gate)?;
+    let logs = join_all(alloc, &mut crew, swept)?;
+    let first = crew.leave();
     let ends = finish(alloc, tables, first)?;
     Ok(Ran { ends, logs })
 }

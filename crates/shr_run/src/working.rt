@@ -1,39 +1,58 @@
 //! The workers on threads.
 
 ghost use Rattle.std.specs.Prelude.{◌≡◌, All, IfOk, vec_len};
-ghost use Rattle.shr_plain.specs.Opening.{ArePoolsOf};
-ghost use Rattle.shr_walk.specs.Sharing.{IsShared};
 ghost use Rattle.shr_worker.specs.Tasks.{IsTask};
-ghost use Rattle.shr_run.specs.Tasks.{HasRun, HaveRun};
+ghost use Rattle.shr_run.specs.Tasks.{Starting, HasRun, HaveRun};
 
 use shr_base::memory::Memory;
 use shr_outside::outside::Gate;
-use shr_tables::tables::Tables;
+use shr_walk::seats::Shared;
 use shr_worker::running::run_worker;
 use shr_worker::tasks::{Task, WorkerResult};
 use std::alloc::Global;
+use std::marker::Model;
 use std::sync::Wait;
 use std::thread;
 use std::thread::Threads;
 
+/// A worker that can start: its task, with the runtime and the tables that it runs with. Our own.
+#[derive(Drop)]
+pub(crate) struct Start<'a, R: Wait> {
+    pub rt: &'a R,
+    pub shared: &'a Shared,
+    pub task: Task<'a>,
+}
+
+impl<'a, R: Wait> Model for Start<'a, R> {
+    ghost use Rattle.shr_run.specs.Tasks.{Starting};
+
+    ghost Value = { Starting };
+
+    ghost view = { λ s. record { shared = s.shared.now; task = s.task } };
+}
+
+// Runs a worker's task here.
+fn run_one<'a, R: Wait, G: Gate>(start: Start<'a, R>, gate: &G) -> WorkerResult<'a>
+    requires { IsTask start.shared start.task }
+    ensures { HasRun start.entry result }
+{
+    let Start { rt, shared, task } = start;
+    run_worker(rt, shared, task, gate)
+}
+
 // Runs these tasks here, one after another.
-fn run_here<R: Wait, G: Gate>(
-    rt: &R,
+fn run_here<'a, R: Wait, G: Gate>(
     alloc: Global,
-    tables: &Tables,
-    tasks: Vec<Task>,
+    starts: Vec<Start<'a, R>>,
     gate: &G,
-) -> Result<Vec<WorkerResult>, Memory>
-    requires shared { IsShared tables.now.shared }
-    requires pools { ArePoolsOf tables.now.shared.script tables.now.pools }
-    requires tasks { All (λ (t : Task). IsTask tables.now.shared tables.now.pools t) tasks.items }
-    ensures len { IfOk result (λ results. vec_len results ≡ vec_len tasks) }
-    ensures run { IfOk result (λ results. HaveRun tables.now.shared tables.now.pools tasks.items
-        results.items) }
+) -> Result<Vec<WorkerResult<'a>>, Memory>
+    requires tasks { All (λ (s : Starting). IsTask s.shared s.task) starts.items }
+    ensures len { IfOk result (λ results. vec_len results ≡ vec_len starts.entry) }
+    ensures run { IfOk result (λ results. HaveRun starts.entry.items results.items) }
 {
     let mut results = Vec::new(alloc);
-    for task in tasks {
-        let result = run_worker(rt, &tables.shared, &tables.pools, task, gate);
+    for start in starts {
+        let result = run_one(start, gate);
         results.push(result)?;
     }
     Ok(results)
@@ -44,31 +63,25 @@ fn run_here<R: Wait, G: Gate>(
 /// comes for want of memory.
 ///
 /// Linux: tasks and `kswapd` run side by side; here each worker is both.
-pub(crate) fn run_all<R: Threads + Wait + Sync, G: Gate + Sync>(
+pub(crate) fn run_all<'a, R: Threads + Wait + Sync, G: Gate + Sync>(
     rt: &R,
     alloc: Global,
-    tables: &Tables,
-    tasks: Vec<Task>,
+    starts: Vec<Start<'a, R>>,
     gate: &G,
-) -> Result<Vec<WorkerResult>, Memory>
-    requires shared { IsShared tables.now.shared }
-    requires pools { ArePoolsOf tables.now.shared.script tables.now.pools }
-    requires tasks { All (λ (t : Task). IsTask tables.now.shared tables.now.pools t) tasks.items }
-    ensures len { IfOk result (λ results. vec_len results ≡ vec_len tasks) }
-    ensures run { IfOk result (λ results. HaveRun tables.now.shared tables.now.pools tasks.items
-        results.items) }
+) -> Result<Vec<WorkerResult<'a>>, Memory>
+    requires tasks { All (λ (s : Starting). IsTask s.shared s.task) starts.items }
+    ensures len { IfOk result (λ results. vec_len results ≡ vec_len starts.entry) }
+    ensures run { IfOk result (λ results. HaveRun starts.entry.items results.items) }
 {
-    if tasks.len() == 1 {
-        return run_here(rt, alloc, tables, tasks, gate);
+    if starts.len() == 1 {
+        return run_here(alloc, starts, gate);
     }
     Ok(thread::map_vec(
         rt,
-        tasks,
-        &|task: Task| -> WorkerResult
-            requires { IsShared tables.now.shared
-                × ArePoolsOf tables.now.shared.script tables.now.pools
-                × IsTask tables.now.shared tables.now.pools task }
-            ensures { HasRun tables.entry.now.shared tables.entry.now.pools task result }
-        { run_worker(rt, &tables.shared, &tables.pools, task, gate) },
+        starts,
+        &|start: Start<R>| -> WorkerResult
+            requires { IsTask start.shared start.task }
+            ensures { HasRun start.entry result }
+        { run_one(start, gate) },
     )?)
 }

@@ -27,12 +27,10 @@ pub fn help<R: Wait>(
     nofs: bool,
 ) -> SweepAnswer
     requires priority { priority ≤ 12 }
-    requires pass { passes.IsJobPass queue.now pass.old
-        × passes.IsHelper (passes.pass_view pass.old) }
+    requires pass { passes.IsHandedOut queue.now pass.old }
     requires open { ends (passes.pass_view pass.old).popped ≡ 0 }
     requires line { IsLineWithin worker.old.shared (passes.pass_view pass.old) }
-    ensures pass { passes.IsJobPass queue.now pass.new
-        × passes.IsHelper (passes.pass_view pass.new) }
+    ensures pass { passes.IsHandedOut queue.now pass.new }
     ensures helped { HelpGives worker.old.shared worker.old.by priority nofs result
         (passes.pass_view pass.old) (passes.pass_view pass.new) worker.old.state worker.new.state }
     ensures same { IsSame worker.old worker.new }

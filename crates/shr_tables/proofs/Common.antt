@@ -4,7 +4,7 @@ pub use Rattle.std.proofs.lemmas.Bool.Decides.{nat_tests}
 pub use Rattle.std.specs.Prelude.{None, Option, Some, if◌then◌else◌, slice_get, ◌&&◌, ◌==◌}
 pub use Rattle.shr_base.specs.declared.scripts.CacheDecl.{CacheDecl}
 pub use Rattle.shr_core.specs.Rule.{opener}
-pub use Rattle.shr_core.specs.Seats.{IsOf, shape_of, view_of}
+pub use Rattle.shr_core.specs.Seats.{first_view, shape_of, view_of}
 pub use Rattle.shr_core.specs.declared.view.View.{View}
 pub use Rattle.shr_script.proofs.BoundsLaws.{within_of_valid}
 pub use Rattle.shr_script.specs.Content.{content_of}

@@ -1,6 +1,7 @@
 -- Declarations registered one after another.
 use Rattle.shr_tables.proofs.Common.{◌≡◌, ℕ, zero, suc, ◌+◌, List, [], ◌++◌, Bool, true, false, sym, refl, ap, subst, ◌∙◌, arith, slice_get, Some, CacheDecl, View, opener, AreEntered, Enters, EntersIf, is_on}
 use Rattle.shr_core.specs.Parts.{Tried}
+use Rattle.shr_seats.specs.Standing.{at_first}
 use Rattle.shr_core.proofs.Owing.{still_none}
 
 -- one cache more that is on
@@ -27,3 +28,12 @@ unowed_if false n u w same none = ap (λ (v : View). v.marks.owed) same ∙ none
 pub entered_unowed : (cs : List CacheDecl) (n : ℕ) (w : View) → AreEntered cs n opener w → w.marks.owed ≡ []
 entered_unowed cs zero w same = ap (λ (v : View). v.marks.owed) same
 entered_unowed cs (suc n) w entered = unowed_if (is_on (slice_get cs n)) n entered.0 w entered.2 (entered_unowed cs n entered.0 entered.1)
+
+-- and the seat stands as at the opening
+stands_if : (b : Bool) (n : ℕ) (u w : View) → EntersIf b n u w → w.standing ≡ u.standing
+stands_if true n u w enters = enters.gains.adds.standing
+stands_if false n u w same = ap (λ (v : View). v.standing) same
+
+pub stands : (cs : List CacheDecl) (n : ℕ) (w : View) → AreEntered cs n opener w → w.standing ≡ at_first
+stands cs zero w same = ap (λ (v : View). v.standing) same
+stands cs (suc n) w (u, before, one) = stands_if (is_on (slice_get cs n)) n u w one ∙ stands cs n u before

@@ -2,28 +2,27 @@
 
 ghost use Rattle.std.specs.Prelude.{◌≡◌, ◌<◌, ◌^◌, All, IfOk};
 ghost use Rattle.shr_core.specs.Leaving.{IsLeft};
-ghost use Rattle.shr_core.specs.Seats.{view_of};
+ghost use Rattle.shr_core.specs.Seats.{first_view};
 ghost use Rattle.shr_charge.specs.Ends.{IsEndOf};
-ghost use Rattle.shr_seats.specs.Shapes.{hierarchy_of};
-ghost use Rattle.shr_charge.specs.Seat.{uses_of, tree_of};
-ghost use Rattle.shr_charge.specs.Seat as charges;
-ghost use Rattle.shr_deferred.specs.Left.{left_over};
+ghost use Rattle.shr_charge.specs.Seat.{first_uses, first_tree, first_standing};
 ghost use Rattle.shr_deferred.specs.History.{HasHistory};
-ghost use Rattle.shr_deferred.specs.Seat.{moves_of, strands_of};
-ghost use Rattle.shr_deferred.specs.Seat as deferreds;
-ghost use Rattle.shr_seats.specs.Standing.{IsWhole};
+ghost use Rattle.shr_deferred.specs.Left.{left_over};
+ghost use Rattle.shr_deferred.specs.Rule.{strands_in};
+ghost use Rattle.shr_deferred.specs.Seat.{first_deferred};
 ghost use Rattle.shr_plain.specs.Ending.{IsPoolsEnd};
-ghost use Rattle.shr_plain.specs.Seat.{IsLastSeat};
-ghost use Rattle.shr_plain.specs.Seat as plain;
-ghost use Rattle.shr_tables.specs.Parted.{AreFirst, IsPlainFirst};
+ghost use Rattle.shr_plain.specs.Seat.{IsLastSeat, first_plain, first_plain_standing};
+ghost use Rattle.shr_seats.specs.Lines.{acts_of};
+ghost use Rattle.shr_seats.specs.Shapes.{hierarchy_of};
+ghost use Rattle.shr_seats.specs.Standing.{IsWhole};
+ghost use Rattle.shr_tables.specs.Firsts.{AreFirstIn, held_in};
 
-use crate::tables::{CrewSeats, Tables};
+use crate::tables::{FirstCrew, Tables};
 use shr_base::ends::{ChargeEnd, Closed, PlaceAmount};
 use shr_base::log::Log;
 use shr_base::memory::Memory;
 use shr_base::scripts::Script;
 use shr_plain::ending::PoolsEnd;
-use shr_walk::seats::{CacheSeat, Seats, Shared};
+use shr_walk::seats::{FirstSeats, Shared};
 use std::alloc::Global;
 
 /// What is left of a run: the script that was run, and the end of each table. Our own.
@@ -36,29 +35,30 @@ pub struct Ends {
     pub pools: PoolsEnd,
 }
 
-/// Ends all tables once all other seats were joined into the first ones. `Memory` comes for want of memory. Our own.
-pub fn finish(alloc: Global, tables: Tables, first: CrewSeats) -> Result<Ends, Memory>
-    requires first { AreFirst tables.shared first.seats }
-    requires plain { IsPlainFirst tables.pools first.plain }
-    requires core { IsWhole (view_of first.seats.cache.core).standing }
-    requires charge { IsWhole (charges.standing_of first.seats.cache.charge) }
-    requires deferred { IsWhole (deferreds.deferred_standing first.seats.deferred) }
-    requires pools { IsLastSeat (plain.plain_standing first.plain) }
+/// Ends all tables once all other seats were joined into the first ones. `Memory` comes for want of
+/// memory. Our own.
+pub fn finish(alloc: Global, tables: Tables, first: FirstCrew) -> Result<Ends, Memory>
+    requires first { AreFirstIn (held_in tables) first }
+    requires core { IsWhole (first_view first.seats.core).standing }
+    requires charge { IsWhole (first_standing first.seats.charge) }
+    requires deferred { IsWhole (first_deferred first.seats.deferred).standing }
+    requires pools { IsLastSeat (first_plain_standing first.plain) }
     ensures script { IfOk result (λ e. e.script ≡ tables.shared.script) }
-    ensures core { IfOk result (λ e. IsLeft tables.shared.core.setting (view_of
-        first.seats.cache.core) e.core) }
+    ensures core { IfOk result (λ e. IsLeft tables.shared.core.setting
+        (first_view first.seats.core) e.core) }
     ensures words { IfOk result (λ e. All (λ m. m.bits < 2 ^ 64) e.core.maps.items) }
     ensures deferred { IfOk result (λ e. e.deferred.items
-        ≡ left_over tables.shared.deferred.sizes (moves_of first.seats.deferred)) }
+        ≡ left_over tables.shared.deferred.sizes (acts_of (first_deferred
+        first.seats.deferred).did)) }
     ensures history { IfOk result (λ e. HasHistory tables.shared.deferred.sizes
-        (strands_of first.seats.deferred) e.deferred.items) }
+        (strands_in (first_deferred first.seats.deferred)) e.deferred.items) }
     ensures charge { IfOk result (λ e. IsEndOf (hierarchy_of tables.shared.charge.shape)
-        (uses_of first.seats.cache.charge) (tree_of first.seats.cache.charge) e.charge) }
-    ensures pools { IfOk result (λ e. IsPoolsEnd tables.pools.sizes
-        (plain.plain_state_of first.plain) e.pools) }
+        (first_uses first.seats.charge) (first_tree first.seats.charge) e.charge) }
+    ensures pools { IfOk result (λ e. IsPoolsEnd tables.pools.sizes (first_plain first.plain)
+        e.pools) }
 {
     let Tables { shared, pools } = tables;
-    let CrewSeats { seats, plain } = first;
+    let FirstCrew { seats, plain } = first;
     let Shared {
         core,
         deferred,
@@ -67,20 +67,14 @@ pub fn finish(alloc: Global, tables: Tables, first: CrewSeats) -> Result<Ends, M
         tree: _,
         deepest: _,
     } = shared;
-    let Seats {
-        cache,
-        deferred: deferred_seat,
-        walks: _,
-        carries: _,
+    let FirstSeats {
+        core: first_core,
+        charge: first_charge,
+        deferred: first_deferred,
     } = seats;
-    let CacheSeat {
-        core: core_seat,
-        charge: charge_seat,
-        uses: _,
-    } = cache;
-    let core = core.finish(core_seat)?;
-    let deferred = deferred.finish(alloc, deferred_seat)?;
-    let charge = charge.finish(charge_seat)?;
+    let core = core.finish(first_core)?;
+    let deferred = deferred.finish(alloc, first_deferred)?;
+    let charge = charge.finish(first_charge)?;
     let pools = pools.finish(plain)?;
     Ok(Ends {
         script,

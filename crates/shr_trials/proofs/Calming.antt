@@ -1,5 +1,5 @@
 -- Each call leaves its seat calm, and where it stands among the seats.
-use Rattle.shr_trials.proofs.Common.{◌≡◌, ℕ, List, Bool, ap, ◌∙◌, IsCalm, None}
+use Rattle.shr_trials.proofs.Common.{◌≡◌, ℕ, List, Bool, ap, ◌∙◌, IsCalm, StaysCalm, None}
 use Rattle.shr_base.specs.declared.objects.Object.{Object}
 use Rattle.shr_base.specs.declared.objects.Policy.{Policy}
 use Rattle.shr_base.specs.declared.places.Place.{Place}
@@ -10,6 +10,7 @@ use Rattle.shr_base.specs.declared.journals.PoolEntry.{PoolEntry}
 use Rattle.shr_base.specs.declared.journals.Entry.{Entry}
 use Rattle.shr_list.specs.Listed.{Listed}
 use Rattle.shr_core.specs.declared.view.View.{View}
+use Rattle.shr_core.specs.Seats.{Seated, view_of}
 use Rattle.shr_seats.specs.declared.shape.Shape.{Shape}
 use Rattle.shr_core.specs.Parts.{Made, Claims, no_rooms}
 use Rattle.shr_node.specs.declared.answers.NodeAdd.{NodeAdd}
@@ -44,6 +45,10 @@ use Rattle.shr_registry.specs.Ending.{UnregisterGives}
 pub record Keeps (v w : View) : Type 0 where
   pub calm : IsCalm v → IsCalm w
   pub standing : w.standing ≡ v.standing
+
+-- so a call that keeps it, at its core, leaves it calm
+pub calm_by : (s t : Seated) → IsCalm (view_of s) → t.core ≡ s.core → Keeps (view_of s) (view_of t) → StaysCalm s t
+calm_by s t calm core k = record { core = core; calm = k.calm calm; standing = k.standing }
 
 -- a call that gains only entries and bits keeps the seat calm
 pub keeps_gains : (v w : View) (more : List Made) (bits : List ℕ) → Gains v w more bits → Keeps v w

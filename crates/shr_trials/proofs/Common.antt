@@ -3,6 +3,5 @@ pub use Rattle.std.proofs.Common.{Bool, List, ap, subst, ℕ, ◌∙◌, ◌≡�
 pub use Rattle.std.specs.Option.{IsSome, is_some}
 pub use Rattle.std.specs.Prelude.{None, Option}
 pub use Rattle.shr_base.specs.declared.journals.TreeEntry.{TreeEntry}
-pub use Rattle.shr_core.specs.Seats.{IsOf, view_of}
 pub use Rattle.shr_model.specs.TreeJournal.{begin_of}
-pub use Rattle.shr_trials.specs.Calm.{IsCalm}
+pub use Rattle.shr_trials.specs.Calm.{IsCalm, StaysCalm}

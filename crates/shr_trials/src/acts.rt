@@ -1,14 +1,12 @@
 //! The calls on a list by a name each, and what each is told, as a word and numbers.
 
-ghost use Rattle.std.specs.Prelude.{◌≡◌};
-ghost use Rattle.shr_core.specs.Seats.{IsOf, view_of};
-ghost use Rattle.shr_trials.specs.Calm.{IsCalm};
+ghost use Rattle.shr_core.specs.Seats.{view_of};
+ghost use Rattle.shr_trials.specs.Calm.{IsCalm, StaysCalm};
 
 use crate::calls::{close, del, get, pin, put, walk};
 use shr_base::places::{At, Place};
 use shr_base::replies::Spent;
 use shr_core::seat::Seat;
-use shr_core::table::Core;
 use shr_node::answers::{NodeAdd, NodeDrop, NodeLook, NodePin, NodeScan, SpliceAnswer};
 use std::sync::Wait;
 
@@ -110,24 +108,20 @@ fn of_close(answer: Option<SpliceAnswer>) -> Heard {
 /// Makes the call where the seat may make it, and tells what it was told. Our own.
 pub(crate) fn make<R: Wait>(
     rt: &R,
-    core: &Core,
-    seat: &mut Seat,
+    seat: &mut Seat<'_>,
     act: Act,
     place: Place,
     key: &[u8],
 ) -> Heard
-    requires seat { IsOf core.now seat.old }
-    requires calm { IsCalm (view_of seat.old) }
-    ensures seat { IsOf core.now seat.new }
-    ensures calm { IsCalm (view_of seat.new) }
-    ensures standing { (view_of seat.new).standing ≡ (view_of seat.old).standing }
+    requires { IsCalm (view_of seat.old) }
+    ensures { StaysCalm seat.old seat.new }
 {
     match act {
-        Act::Put => of_put(put(rt, core, seat, place, key)),
-        Act::Get => of_get(get(rt, core, seat, place, key)),
-        Act::Del => of_del(del(rt, core, seat, place, key)),
-        Act::Pin => of_pin(pin(rt, core, seat, place, key)),
-        Act::Scan => of_scan(walk(rt, core, seat, place, 9)),
-        Act::Close => of_close(close(rt, core, seat, place)),
+        Act::Put => of_put(put(rt, seat, place, key)),
+        Act::Get => of_get(get(rt, seat, place, key)),
+        Act::Del => of_del(del(rt, seat, place, key)),
+        Act::Pin => of_pin(pin(rt, seat, place, key)),
+        Act::Scan => of_scan(walk(rt, seat, place, 9)),
+        Act::Close => of_close(close(rt, seat, place)),
     }
 }

@@ -2,9 +2,9 @@
 
 ghost use Rattle.std.specs.Prelude.{◌≡◌, ◌<◌, true, Some};
 ghost use Rattle.shr_seats.specs.Shapes.{groups_in};
-ghost use Rattle.shr_core.specs.Seats.{IsOf, view_of, shape_of};
+ghost use Rattle.shr_core.specs.Seats.{view_of, shape_of};
 ghost use Rattle.shr_core.specs.Steps.{IsAtRest};
-ghost use Rattle.shr_trials.specs.Calm.{IsCalm};
+ghost use Rattle.shr_trials.specs.Calm.{IsCalm, StaysCalm};
 
 use shr_base::ends::LookupWord;
 use shr_base::objects::{Object, Policy};
@@ -12,7 +12,6 @@ use shr_base::places::{Place, Serial};
 use shr_base::text::Text;
 use shr_core::counts::Seen;
 use shr_core::seat::Seat;
-use shr_core::table::Core;
 use shr_node::answers::{NodeAdd, NodeDrop, NodeLook, NodePin, NodeScan, SpliceAnswer};
 use shr_node::scanning::{ScanRequest, scan};
 use shr_node::splicing::splice;
@@ -38,211 +37,161 @@ pub(crate) fn place_of(group: u16) -> Place
     }
 }
 
-// Whether the seat holds a place's id, and there are its node and group.
-fn may_call(core: &Core, seat: &Seat, place: Place) -> bool
-    requires { IsOf core.now seat.now }
+// Whether the seat holds a place's id, and there is such a place.
+fn may_call(seat: &Seat<'_>, place: Place) -> bool
     ensures held { result ≡ true → (view_of seat.now).claims.held ≡ Some place.id }
-    ensures node { result ≡ true → place.node < (shape_of core.now).nodes }
-    ensures group { result ≡ true → place.group < groups_in (shape_of core.now) }
+    ensures id { result ≡ true → place.id < (shape_of seat.now.core).ids }
+    ensures node { result ≡ true → place.node < (shape_of seat.now.core).nodes }
+    ensures group { result ≡ true → place.group < groups_in (shape_of seat.now.core) }
 {
-    let Some(held) = core.holds(seat) else {
+    let Some(held) = seat.holds() else {
         return false;
     };
+    let shape = seat.core().shape();
     held == place.id
-        && place.node < core.shape().nodes
-        && (place.group as usize) < core.shape().parents.len()
+        && place.id < shape.ids
+        && place.node < shape.nodes
+        && (place.group as usize) < shape.parents.len()
 }
 
 /// Registers a declaration. Our own.
-pub(crate) fn register<R: Wait>(
-    rt: &R,
-    core: &Core,
-    seat: &mut Seat,
-    decl: u8,
-) -> Option<RegisterAnswer>
-    requires seat { IsOf core.now seat.old }
-    requires calm { IsCalm (view_of seat.old) }
-    ensures seat { IsOf core.now seat.new }
-    ensures calm { IsCalm (view_of seat.new) }
-    ensures standing { (view_of seat.new).standing ≡ (view_of seat.old).standing }
+pub(crate) fn register<R: Wait>(rt: &R, seat: &mut Seat<'_>, decl: u8) -> Option<RegisterAnswer>
+    requires { IsCalm (view_of seat.old) }
+    ensures { StaysCalm seat.old seat.new }
 {
-    if core.holds(seat).is_some() || decl >= core.shape().decls {
+    if seat.holds().is_some() || decl >= seat.core().shape().decls {
         return None;
     }
-    Some(registering::register(rt, core, seat, decl))
+    Some(registering::register(rt, seat, decl))
 }
 
 /// Finds a declaration, and holds its id. Our own.
-pub(crate) fn hold<R: Wait>(rt: &R, core: &Core, seat: &mut Seat, decl: u8) -> Option<FindAnswer>
-    requires seat { IsOf core.now seat.old }
-    requires calm { IsCalm (view_of seat.old) }
-    ensures seat { IsOf core.now seat.new }
-    ensures calm { IsCalm (view_of seat.new) }
-    ensures standing { (view_of seat.new).standing ≡ (view_of seat.old).standing }
+pub(crate) fn hold<R: Wait>(rt: &R, seat: &mut Seat<'_>, decl: u8) -> Option<FindAnswer>
+    requires { IsCalm (view_of seat.old) }
+    ensures { StaysCalm seat.old seat.new }
 {
-    if core.holds(seat).is_some() || decl >= core.shape().decls {
+    if seat.holds().is_some() || decl >= seat.core().shape().decls {
         return None;
     }
-    Some(find(rt, core, seat, decl))
+    Some(find(rt, seat, decl))
 }
 
 /// Unregisters a declaration. Our own.
-pub(crate) fn unregister<R: Wait>(
-    rt: &R,
-    core: &Core,
-    seat: &mut Seat,
-    decl: u8,
-) -> Option<UnregisterAnswer>
-    requires seat { IsOf core.now seat.old }
-    requires calm { IsCalm (view_of seat.old) }
-    ensures seat { IsOf core.now seat.new }
-    ensures calm { IsCalm (view_of seat.new) }
-    ensures standing { (view_of seat.new).standing ≡ (view_of seat.old).standing }
+pub(crate) fn unregister<R: Wait>(rt: &R, seat: &mut Seat<'_>, decl: u8) -> Option<UnregisterAnswer>
+    requires { IsCalm (view_of seat.old) }
+    ensures { StaysCalm seat.old seat.new }
 {
-    if core.holds(seat).is_some() || decl >= core.shape().decls {
+    if seat.holds().is_some() || decl >= seat.core().shape().decls {
         return None;
     }
-    Some(unregistering::unregister(rt, core, seat, decl, BY))
+    Some(unregistering::unregister(rt, seat, decl, BY))
 }
 
 /// Gives the reference to the id back, if the seat holds one. Our own.
-pub(crate) fn rest(core: &Core, seat: &mut Seat)
-    requires seat { IsOf core.now seat.old }
-    requires calm { IsCalm (view_of seat.old) }
-    ensures seat { IsOf core.now seat.new }
+pub(crate) fn rest(seat: &mut Seat<'_>)
+    requires { IsCalm (view_of seat.old) }
     ensures rest { IsAtRest (view_of seat.new) }
-    ensures calm { IsCalm (view_of seat.new) }
-    ensures standing { (view_of seat.new).standing ≡ (view_of seat.old).standing }
+    ensures calm { StaysCalm seat.old seat.new }
 {
-    if let Some(_held) = core.holds(seat) {
-        core.put(seat);
+    if let Some(_held) = seat.holds() {
+        seat.put();
     }
 }
 
 /// Adds an object of this key. Our own.
-pub(crate) fn put<R: Wait>(
-    rt: &R,
-    core: &Core,
-    seat: &mut Seat,
-    place: Place,
-    key: &[u8],
-) -> Option<NodeAdd>
-    requires seat { IsOf core.now seat.old }
-    requires calm { IsCalm (view_of seat.old) }
-    ensures seat { IsOf core.now seat.new }
-    ensures calm { IsCalm (view_of seat.new) }
-    ensures standing { (view_of seat.new).standing ≡ (view_of seat.old).standing }
+pub(crate) fn put<R: Wait>(rt: &R, seat: &mut Seat<'_>, place: Place, key: &[u8]) -> Option<NodeAdd>
+    requires { IsCalm (view_of seat.old) }
+    ensures { StaysCalm seat.old seat.new }
 {
-    if !may_call(core, seat, place) {
+    if !may_call(seat, place) {
         return None;
     }
     let object = Object {
         serial: BY,
         birth: place.group,
-        key: Text::of(core.alloc, key).ok()?,
-        value: Text::of(core.alloc, b"v").ok()?,
+        key: Text::of(seat.core().alloc, key).ok()?,
+        value: Text::of(seat.core().alloc, b"v").ok()?,
         marked: false,
         pinned: false,
     };
-    Some(tenants::add(rt, core, seat, place.id, place.node, object))
+    Some(tenants::add(rt, seat, place.id, place.node, object))
 }
 
 /// Looks an object up. Our own.
 pub(crate) fn get<R: Wait>(
     rt: &R,
-    core: &Core,
-    seat: &mut Seat,
+    seat: &mut Seat<'_>,
     place: Place,
     key: &[u8],
 ) -> Option<NodeLook>
-    requires seat { IsOf core.now seat.old }
-    requires calm { IsCalm (view_of seat.old) }
-    ensures seat { IsOf core.now seat.new }
-    ensures calm { IsCalm (view_of seat.new) }
-    ensures standing { (view_of seat.new).standing ≡ (view_of seat.old).standing }
+    requires { IsCalm (view_of seat.old) }
+    ensures { StaysCalm seat.old seat.new }
 {
-    if !may_call(core, seat, place) {
+    if !may_call(seat, place) {
         return None;
     }
-    let key = Text::of(core.alloc, key).ok()?;
+    let key = Text::of(seat.core().alloc, key).ok()?;
     let call = TenantCall {
         id: place.id,
         node: place.node,
         by: BY,
         birth: place.group,
     };
-    Some(tenants::look(rt, core, seat, call, &key))
+    Some(tenants::look(rt, seat, call, &key))
 }
 
 /// Takes an object out. Our own.
 pub(crate) fn del<R: Wait>(
     rt: &R,
-    core: &Core,
-    seat: &mut Seat,
+    seat: &mut Seat<'_>,
     place: Place,
     key: &[u8],
 ) -> Option<NodeDrop>
-    requires seat { IsOf core.now seat.old }
-    requires calm { IsCalm (view_of seat.old) }
-    ensures seat { IsOf core.now seat.new }
-    ensures calm { IsCalm (view_of seat.new) }
-    ensures standing { (view_of seat.new).standing ≡ (view_of seat.old).standing }
+    requires { IsCalm (view_of seat.old) }
+    ensures { StaysCalm seat.old seat.new }
 {
-    if !may_call(core, seat, place) {
+    if !may_call(seat, place) {
         return None;
     }
-    let key = Text::of(core.alloc, key).ok()?;
+    let key = Text::of(seat.core().alloc, key).ok()?;
     let call = TenantCall {
         id: place.id,
         node: place.node,
         by: BY,
         birth: place.group,
     };
-    Some(tenants::drop_key(rt, core, seat, call, &key))
+    Some(tenants::drop_key(rt, seat, call, &key))
 }
 
 /// Pins an object. Our own.
-pub(crate) fn pin<R: Wait>(
-    rt: &R,
-    core: &Core,
-    seat: &mut Seat,
-    place: Place,
-    key: &[u8],
-) -> Option<NodePin>
-    requires seat { IsOf core.now seat.old }
-    requires calm { IsCalm (view_of seat.old) }
-    ensures seat { IsOf core.now seat.new }
-    ensures calm { IsCalm (view_of seat.new) }
-    ensures standing { (view_of seat.new).standing ≡ (view_of seat.old).standing }
+pub(crate) fn pin<R: Wait>(rt: &R, seat: &mut Seat<'_>, place: Place, key: &[u8]) -> Option<NodePin>
+    requires { IsCalm (view_of seat.old) }
+    ensures { StaysCalm seat.old seat.new }
 {
-    if !may_call(core, seat, place) {
+    if !may_call(seat, place) {
         return None;
     }
-    let key = Text::of(core.alloc, key).ok()?;
+    let key = Text::of(seat.core().alloc, key).ok()?;
     let call = TenantCall {
         id: place.id,
         node: place.node,
         by: BY,
         birth: place.group,
     };
-    Some(tenants::set_pin(rt, core, seat, call, &key, true))
+    Some(tenants::set_pin(rt, seat, call, &key, true))
 }
 
 /// Scans the list of a group, with a budget of this many visits. Our own.
 pub(crate) fn walk<R: Wait>(
     rt: &R,
-    core: &Core,
-    seat: &mut Seat,
+    seat: &mut Seat<'_>,
     place: Place,
     asked: u32,
 ) -> Option<NodeScan>
-    requires seat { IsOf core.now seat.old }
-    requires calm { IsCalm (view_of seat.old) }
-    ensures seat { IsOf core.now seat.new }
-    ensures calm { IsCalm (view_of seat.new) }
-    ensures standing { (view_of seat.new).standing ≡ (view_of seat.old).standing }
+    requires { IsCalm (view_of seat.old) }
+    ensures { StaysCalm seat.old seat.new }
 {
-    if !may_call(core, seat, place) {
+    if !may_call(seat, place) {
         return None;
     }
     let request = ScanRequest {
@@ -251,52 +200,38 @@ pub(crate) fn walk<R: Wait>(
         policy: Policy::Clock,
         asked,
     };
-    Some(scan(rt, core, seat, place, request))
+    Some(scan(rt, seat, place, request))
 }
 
 /// Closes the lists of a group and of those below it. Our own.
-pub(crate) fn close<R: Wait>(
-    rt: &R,
-    core: &Core,
-    seat: &mut Seat,
-    place: Place,
-) -> Option<SpliceAnswer>
-    requires seat { IsOf core.now seat.old }
-    requires calm { IsCalm (view_of seat.old) }
-    ensures seat { IsOf core.now seat.new }
-    ensures calm { IsCalm (view_of seat.new) }
-    ensures standing { (view_of seat.new).standing ≡ (view_of seat.old).standing }
+pub(crate) fn close<R: Wait>(rt: &R, seat: &mut Seat<'_>, place: Place) -> Option<SpliceAnswer>
+    requires { IsCalm (view_of seat.old) }
+    ensures { StaysCalm seat.old seat.new }
 {
-    if place.group == 0 || !may_call(core, seat, place) {
+    if place.group == 0 || !may_call(seat, place) {
         return None;
     }
-    Some(splice(rt, core, seat, place.id, place.node, place.group))
+    Some(splice(rt, seat, place.id, place.node, place.group))
 }
 
 /// Counts a place. Our own.
-pub(crate) fn count(core: &Core, seat: &mut Seat, place: Place) -> Option<Seen>
-    requires seat { IsOf core.now seat.old }
-    requires calm { IsCalm (view_of seat.old) }
-    ensures seat { IsOf core.now seat.new }
-    ensures calm { IsCalm (view_of seat.new) }
-    ensures standing { (view_of seat.new).standing ≡ (view_of seat.old).standing }
+pub(crate) fn count(seat: &mut Seat<'_>, place: Place) -> Option<Seen>
+    requires { IsCalm (view_of seat.old) }
+    ensures { StaysCalm seat.old seat.new }
 {
-    if !may_call(core, seat, place) {
+    if !may_call(seat, place) {
         return None;
     }
-    Some(core.count(seat, place))
+    Some(seat.count(place))
 }
 
 /// Loads the word of an id. Our own.
-pub(crate) fn word_of(core: &Core, seat: &mut Seat, id: u16) -> Option<LookupWord>
-    requires seat { IsOf core.now seat.old }
-    requires calm { IsCalm (view_of seat.old) }
-    ensures seat { IsOf core.now seat.new }
-    ensures calm { IsCalm (view_of seat.new) }
-    ensures standing { (view_of seat.new).standing ≡ (view_of seat.old).standing }
+pub(crate) fn word_of(seat: &mut Seat<'_>, id: u16) -> Option<LookupWord>
+    requires { IsCalm (view_of seat.old) }
+    ensures { StaysCalm seat.old seat.new }
 {
-    if id >= core.shape().ids {
+    if id >= seat.core().shape().ids {
         return None;
     }
-    Some(core.word_of(seat, id))
+    Some(seat.word_of(id))
 }

@@ -1,9 +1,9 @@
 //! A group that ends once, and a seat that is worn.
 
-ghost use Rattle.std.specs.Prelude.{◌<◌, IfOk, IsSome, length};
+ghost use Rattle.std.specs.Prelude.{◌≡◌, ◌<◌, IfOk, IsSome, length};
 ghost use Rattle.shr_model.specs.TreeJournal.{begin_of};
 ghost use Rattle.shr_seats.specs.Shapes.{HasLimits};
-ghost use Rattle.shr_charge.specs.Seat.{IsChargeSeat, tree_of};
+ghost use Rattle.shr_charge.specs.Seat.{IsFirstChargeOf, tree_of};
 
 use shr_base::journals::UseStep;
 use shr_base::log::Log;
@@ -12,7 +12,7 @@ use shr_base::places::Serial;
 use shr_base::replies::Spent;
 use shr_base::text::Text;
 use shr_charge::answers::{BeginAnswer, ChargeAnswer, DoneAnswer};
-use shr_charge::table::{Charge, ChargeSeat};
+use shr_charge::table::{Charge, ChargeSeat, FirstChargeSeat};
 use shr_seats::shape::Shape;
 use shr_tree::errors::TreeError;
 use shr_tree::tree::Tree;
@@ -23,33 +23,24 @@ use std::test::Fail;
 
 // One charge of a group, unless the group isn't there, the seat is worn out or there is no memory
 // to note it.
-fn up(
-    charge: &Charge,
-    seat: &mut ChargeSeat,
-    uses: &mut Log<UseStep>,
-    group: u16,
-) -> Option<ChargeAnswer>
-    requires { IsChargeSeat charge.now seat.old }
-    ensures seat { IsChargeSeat charge.now seat.new }
-{
-    if group as usize >= charge.shape.parents.len() || charge.spent(seat).is_some() {
+fn up(seat: &mut ChargeSeat<'_>, uses: &mut Log<UseStep>, group: u16) -> Option<ChargeAnswer> {
+    if group as usize >= seat.table().shape.parents.len() || seat.spent().is_some() {
         return None;
     }
     if uses.reserve(2 * (group as usize + 1)).is_err() {
         return None;
     }
-    Some(charge.charge(seat, uses, BY, group))
+    Some(seat.charge(uses, BY, group))
 }
 
 // Ends to take a group offline.
-fn done<R: Wait>(rt: &R, charge: &Charge, seat: &mut ChargeSeat, group: u16) -> DoneAnswer
-    requires group { group < length charge.now.shape.parents.items }
+fn done<R: Wait>(rt: &R, seat: &mut ChargeSeat<'_>, group: u16) -> DoneAnswer
+    requires group { group < length seat.old.charge.shape.parents.items }
     requires begun { IsSome (begin_of (tree_of seat.old).known group) }
-    requires seat { IsChargeSeat charge.now seat.old }
-    ensures seat { IsChargeSeat charge.now seat.new }
+    ensures charge { seat.new.charge ≡ seat.old.charge }
     ensures begun { IsSome (begin_of (tree_of seat.new).known group) }
 {
-    charge.done_offline(rt, seat, group)
+    seat.done_offline(rt, group)
 }
 
 // The command that all tests of one seat speak for.
@@ -92,28 +83,23 @@ fn two_groups(alloc: Global) -> Result<Shape, TreeError>
     shape_of(&tree)
 }
 
-// A table with one seat, and the operations that it noted.
-#[derive(Drop)]
-struct Desk {
-    charge: Charge,
-    seat: ChargeSeat,
-    uses: Log<UseStep>,
-    ghost seated: { IsChargeSeat charge seat },
+// A table of the two, and its first seat.
+fn open(alloc: Global) -> Result<(Charge, FirstChargeSeat), TreeError>
+    ensures { IfOk result (λ t. IsFirstChargeOf t.0 t.1) }
+{
+    Ok(Charge::new(alloc, two_groups(alloc)?)?)
 }
 
-impl Desk {
-    fn new(alloc: Global) -> Result<Desk, TreeError> {
-        let shape = two_groups(alloc)?;
-        let (charge, seat) = Charge::new(alloc, shape)?;
-        Ok(Desk {
-            charge,
-            seat,
-            uses: Log::new(alloc),
-        })
-    }
+// A seat, and the operations that it noted.
+#[derive(Drop)]
+struct Desk<'a> {
+    seat: ChargeSeat<'a>,
+    uses: Log<UseStep>,
+}
 
+impl<'a> Desk<'a> {
     fn up(&mut self, group: u16) -> Option<ChargeAnswer> {
-        up(&self.charge, &mut self.seat, &mut self.uses, group)
+        up(&mut self.seat, &mut self.uses, group)
     }
 
     // Makes room for this many operations.
@@ -122,27 +108,26 @@ impl Desk {
     }
 
     fn spent(&self) -> Option<Spent> {
-        self.charge.spent(&self.seat)
+        self.seat.spent()
     }
 
     fn begin<R: Wait>(&mut self, rt: &R, group: u16) -> Option<BeginAnswer> {
-        if group as usize >= self.charge.shape.parents.len() {
+        if group as usize >= self.seat.table().shape.parents.len() {
             return None;
         }
-        Some(self.charge.begin_offline(rt, &mut self.seat, group))
+        Some(self.seat.begin_offline(rt, group))
     }
 
     // Ends to take a group offline that began before, and tries to end it once more.
     fn end_twice<R: Wait>(&mut self, rt: &R, group: u16) -> Option<(DoneAnswer, DoneAnswer)> {
-        if group as usize >= self.charge.shape.parents.len() {
+        if group as usize >= self.seat.table().shape.parents.len() {
             return None;
         }
-        let BeginAnswer::Resumed { entry: _ } = self.charge.begin_offline(rt, &mut self.seat, group)
-        else {
+        let BeginAnswer::Resumed { entry: _ } = self.seat.begin_offline(rt, group) else {
             return None;
         };
-        let first = done(rt, &self.charge, &mut self.seat, group);
-        Some((first, done(rt, &self.charge, &mut self.seat, group)))
+        let first = done(rt, &mut self.seat, group);
+        Some((first, done(rt, &mut self.seat, group)))
     }
 }
 
@@ -151,7 +136,11 @@ fn ended<R: Wait>(
     rt: &R,
     alloc: Global,
 ) -> Result<([Option<BeginAnswer>; 3], Option<(DoneAnswer, DoneAnswer)>), Fail> {
-    let mut desk = Desk::new(alloc)?;
+    let (charge, first) = open(alloc)?;
+    let mut desk = Desk {
+        seat: first.at(&charge),
+        uses: Log::new(alloc),
+    };
     let begun = [desk.begin(rt, 0), desk.begin(rt, 1), desk.begin(rt, 1)];
     Ok((begun, desk.end_twice(rt, 1)))
 }
@@ -174,7 +163,11 @@ fn a_group_ends_once(rt: HostRuntime) -> Result<(), Fail> {
 
 // Charges the root so many times, and tells how many of these charges were made, and what is spent.
 fn charged(alloc: Global, charges: u32) -> Result<(u32, Option<Spent>), Fail> {
-    let mut desk = Desk::new(alloc)?;
+    let (charge, first) = open(alloc)?;
+    let mut desk = Desk {
+        seat: first.at(&charge),
+        uses: Log::new(alloc),
+    };
     // The room for all operations is asked for at once, and so each charge finds it.
     desk.reserve(charges as usize + 1)?;
     let mut made: u32 = 0;

@@ -2,22 +2,22 @@
 
 ghost use Rattle.std.specs.Prelude.{◌≡◌, IfOk};
 ghost use Rattle.shr_seats.specs.Shapes.{IsShape};
-ghost use Rattle.shr_core.specs.Seats.{IsOf, view_of};
+ghost use Rattle.shr_seats.specs.Standing.{at_first, with_split, IsWhole};
+ghost use Rattle.shr_core.specs.Rule.{opener};
+ghost use Rattle.shr_core.specs.Seating.{IsFirstOf};
+ghost use Rattle.shr_core.specs.Seats.{first_view, view_of};
 ghost use Rattle.shr_core.specs.Steps.{IsAtRest};
-ghost use Rattle.shr_seats.specs.Standing.{at_first, with_split};
-ghost use Rattle.std.proofs.Props.{props};
-ghost use Rattle.shr_trials.specs.Calm.{IsCalm};
-ghost use Rattle.shr_trials.specs.Seated.{is_holding_prop, is_meeting_prop};
+ghost use Rattle.shr_trials.specs.Calm.{IsCalm, StaysCalm};
 
 use crate::acts::{Act, Heard, make};
 use crate::calls::{count, hold, place_of, register, rest, unregister, word_of};
 use crate::left::{is_marked, objects_at, spelled};
-use shr_base::ends::{Closed, LookupWord};
+use shr_base::ends::LookupWord;
 use shr_base::log::Log;
 use shr_base::memory::Memory;
 use shr_base::places::Place;
 use shr_core::counts::Seen;
-use shr_core::seat::Seat;
+use shr_core::seat::{FirstSeat, Seat};
 use shr_core::table::Core;
 use shr_registry::answers::{FindAnswer, RegisterAnswer, UnregisterAnswer};
 use shr_seats::shape::Shape;
@@ -83,16 +83,20 @@ fn line(alloc: Global, sizes: Sizes) -> Result<Shape, Fail>
     })
 }
 
-// Registers each declaration as the id of its number.
-fn register_all<R: Wait>(rt: &R, core: &Core, seat: &mut Seat, decls: u8) -> Result<(), Fail>
-    requires seat { IsOf core.now seat.old }
-    requires calm { IsCalm (view_of seat.old) }
-    ensures seat { IsOf core.now seat.new }
-    ensures calm { IsCalm (view_of seat.new) }
-    ensures standing { (view_of seat.new).standing ≡ (view_of seat.old).standing }
+/// A core of these sizes, with its first seat. Our own.
+pub(crate) fn open(alloc: Global, sizes: Sizes) -> Result<(Core, FirstSeat), Fail>
+    ensures { IfOk result (λ t. IsFirstOf t.0 t.1 × (first_view t.1 ≡ opener)) }
 {
-    for decl in 0..decls {
-        let registered = register(rt, core, seat, decl);
+    Ok(Core::new(alloc, line(alloc, sizes)?, sizes.first_lookup)?)
+}
+
+// Registers each declaration as the id of its number.
+fn register_all<R: Wait>(rt: &R, seat: &mut Seat<'_>) -> Result<(), Fail>
+    requires { IsCalm (view_of seat.old) }
+    ensures { StaysCalm seat.old seat.new }
+{
+    for decl in 0..seat.core().shape().decls {
+        let registered = register(rt, seat, decl);
         if !matches!(registered, Some(RegisterAnswer::Registered { id, .. }) if id == decl as u16) {
             return Err(Fail::from("a declaration was not registered"));
         }
@@ -100,13 +104,11 @@ fn register_all<R: Wait>(rt: &R, core: &Core, seat: &mut Seat, decls: u8) -> Res
     Ok(())
 }
 
-/// A core and its first seat, and the number of the lookup by which the seat came to hold id 0. Our own.
+/// The first seat of a core, and the number of the lookup by which it came to hold id 0. Our own.
 #[derive(Drop)]
-pub(crate) struct Desk {
-    pub(crate) core: Core,
-    pub(crate) seat: Seat,
+pub(crate) struct Desk<'a> {
+    pub(crate) seat: Seat<'a>,
     pub(crate) number: u32,
-    ghost seated: { IsOf core seat } by { Prim.hlevel (is_holding_prop core.setting.shape.ids seat.held, is_meeting_prop core.setting.shape (view_of seat).turns.known seat.met, props) },
     ghost calm: { IsCalm (view_of seat) },
     ghost first: { (view_of seat).standing ≡ at_first },
 }
@@ -114,27 +116,34 @@ pub(crate) struct Desk {
 /// A call for the list of id 0 and a group, with its key, and what it is to be told. Our own.
 pub(crate) type Row = (Act, u16, &'static [u8], Heard);
 
-impl Desk {
-    /// A core of these sizes: each declaration is registered as the id of its number, and the seat
+impl<'a> Desk<'a> {
+    /// A desk at a new core: each declaration is registered as the id of its number, and the seat
     /// holds id 0. Our own.
-    pub(crate) fn new<R: Wait>(rt: &R, alloc: Global, sizes: Sizes) -> Result<Desk, Fail> {
-        let (core, mut seat) = Core::new(alloc, line(alloc, sizes)?, sizes.first_lookup)?;
-        let decls = core.shape().decls;
-        register_all(rt, &core, &mut seat, decls)?;
-        let Some(FindAnswer::Held { id: 0, number, .. }) = hold(rt, &core, &mut seat, 0) else {
+    pub(crate) fn new<R: Wait>(rt: &R, core: &'a Core, first: FirstSeat) -> Result<Desk<'a>, Fail>
+        requires { IsFirstOf core.now first × (first_view first ≡ opener) }
+        ensures { IfOk result (λ d. d.seat.core ≡ core.entry.now) }
+    {
+        let mut seat = first.at(core);
+        register_all(rt, &mut seat)?;
+        let Some(FindAnswer::Held { id: 0, number, .. }) = hold(rt, &mut seat, 0) else {
             return Err(Fail::from("nothing was found"));
         };
-        Ok(Desk { core, seat, number })
+        Ok(Desk { seat, number })
     }
 
     /// Makes a call. Our own.
-    pub(crate) fn make<R: Wait>(&mut self, rt: &R, act: Act, place: Place, key: &[u8]) -> Heard {
-        make(rt, &self.core, &mut self.seat, act, place, key)
+    pub(crate) fn make<R: Wait>(&mut self, rt: &R, act: Act, place: Place, key: &[u8]) -> Heard
+        ensures { self.new.seat.core ≡ self.old.seat.core }
+    {
+        make(rt, &mut self.seat, act, place, key)
     }
 
     /// Makes the calls of these rows, and gives the first that was told something else. Our own.
-    pub(crate) fn first_unlike<R: Wait>(&mut self, rt: &R, rows: &[Row]) -> Option<usize> {
-        for (i, (act, group, key, heard)) in rows.iter().enumerate() {
+    pub(crate) fn first_unlike<R: Wait>(&mut self, rt: &R, rows: &[Row]) -> Option<usize>
+        ensures { self.new.seat.core ≡ self.old.seat.core }
+    {
+        for (i, row) in rows.iter().enumerate() {
+            let (act, group, key, heard) = row;
             if self.make(rt, *act, place_of(*group), key) != *heard {
                 return Some(i);
             }
@@ -144,44 +153,57 @@ impl Desk {
 
     /// Counts the list of id 0 and a group. Our own.
     pub(crate) fn count(&mut self, group: u16) -> Option<Seen> {
-        count(&self.core, &mut self.seat, place_of(group))
+        count(&mut self.seat, place_of(group))
     }
 
     /// Loads the word of id 0. Our own.
     pub(crate) fn word(&mut self) -> Option<LookupWord> {
-        word_of(&self.core, &mut self.seat, 0)
+        word_of(&mut self.seat, 0)
     }
 
     /// Gives the reference back, and holds another declaration's id. Our own.
     pub(crate) fn turn<R: Wait>(&mut self, rt: &R, decl: u8) -> Option<FindAnswer> {
-        rest(&self.core, &mut self.seat);
-        hold(rt, &self.core, &mut self.seat, decl)
+        rest(&mut self.seat);
+        hold(rt, &mut self.seat, decl)
     }
 
     /// Gives the reference back, and registers a declaration. Our own.
     pub(crate) fn register<R: Wait>(&mut self, rt: &R, decl: u8) -> Option<RegisterAnswer> {
-        rest(&self.core, &mut self.seat);
-        register(rt, &self.core, &mut self.seat, decl)
+        rest(&mut self.seat);
+        register(rt, &mut self.seat, decl)
     }
 
     /// Gives the reference back, and unregisters a declaration. Our own.
     pub(crate) fn unregister<R: Wait>(&mut self, rt: &R, decl: u8) -> Option<UnregisterAnswer> {
-        rest(&self.core, &mut self.seat);
-        unregister(rt, &self.core, &mut self.seat, decl)
+        rest(&mut self.seat);
+        unregister(rt, &mut self.seat, decl)
     }
 
-    // Gives the reference back, and ends the core.
-    fn finish(self) -> Result<Closed, Memory> {
-        let Desk { core, mut seat, .. } = self;
-        rest(&core, &mut seat);
-        core.finish(seat)
+    // Gives the reference back, and leaves the core.
+    fn leave(self) -> FirstSeat
+        ensures first { IsFirstOf self.entry.seat.core result }
+        ensures whole { IsWhole (first_view result).standing }
+    {
+        let Desk { mut seat, .. } = self;
+        rest(&mut seat);
+        seat.leave()
     }
+}
 
-    // What is left of id 0 at group 1.
-    fn left(self, alloc: Global) -> Result<Vec<u8>, Memory> {
-        let closed = self.finish()?;
-        spelled(alloc, &closed, place_of(1))
-    }
+// Whether the calls of these rows are told what they must be, and the core's first seat.
+fn told<R: Wait>(
+    rt: &R,
+    core: &Core,
+    first: FirstSeat,
+    rows: &[Row],
+) -> Result<(FirstSeat, bool), Fail>
+    requires { IsFirstOf core.now first × (first_view first ≡ opener) }
+    ensures first { IfOk result (λ t. IsFirstOf core.now t.0) }
+    ensures whole { IfOk result (λ t. IsWhole (first_view t.0).standing) }
+{
+    let mut desk = Desk::new(rt, core, first)?;
+    let is_told = desk.first_unlike(rt, rows).is_none();
+    Ok((desk.leave(), is_told))
 }
 
 /// Whether the calls of these rows are told what they must be, and this is left of id 0 at group 1,
@@ -193,37 +215,52 @@ pub(crate) fn leave<R: Wait>(
     rows: &[Row],
     left: &[u8],
 ) -> Result<bool, Fail> {
-    let mut desk = Desk::new(rt, alloc, sizes)?;
-    let is_told = desk.first_unlike(rt, rows).is_none();
-    Ok(desk.left(alloc)?.as_slice() == left && is_told)
+    let (core, first) = open(alloc, sizes)?;
+    let (first, is_told) = told(rt, &core, first, rows)?;
+    let closed = core.finish(first)?;
+    Ok(spelled(alloc, &closed, place_of(1))?.as_slice() == left && is_told)
 }
 
-/// A core whose first seat was split once. Both seats hold id 0. Our own.
-pub(crate) fn pair<R: Wait>(rt: &R, alloc: Global) -> Result<(Core, Seat, Seat), Fail>
-    ensures first { IfOk result (λ t. IsOf t.0 t.1 × IsCalm (view_of t.1)) }
-    ensures second { IfOk result (λ t. IsOf t.0 t.2 × IsCalm (view_of t.2)) }
-    ensures standing { IfOk result (λ t. (view_of t.1).standing ≡ with_split at_first) }
+/// The first seat of a new core, which was split once, and the other. Both hold id 0. Our own.
+pub(crate) fn pair<'a, R: Wait>(
+    rt: &R,
+    core: &'a Core,
+    first: FirstSeat,
+) -> Result<(Seat<'a>, Seat<'a>), Fail>
+    requires { IsFirstOf core.now first × (first_view first ≡ opener) }
+    ensures core { IfOk result (λ t. (t.0.core ≡ core.entry.now) × (t.1.core ≡ core.entry.now)) }
+    ensures calm { IfOk result (λ t. IsCalm (view_of t.0) × IsCalm (view_of t.1)) }
+    ensures standing { IfOk result (λ t. (view_of t.0).standing ≡ with_split at_first) }
 {
     let Desk {
-        core,
         seat: mut first,
         ..
-    } = Desk::new(rt, alloc, WIDE)?;
-    let mut second = core.split(&mut first)?;
-    let Some(FindAnswer::Held { id: 0, .. }) = hold(rt, &core, &mut second, 0) else {
+    } = Desk::new(rt, core, first)?;
+    let mut second = first.split()?;
+    let Some(FindAnswer::Held { id: 0, .. }) = hold(rt, &mut second, 0) else {
         return Err(Fail::from("nothing was found"));
     };
-    Ok((core, first, second))
+    Ok((first, second))
 }
 
-/// Joins the second seat, and ends the core: how many objects of id 0 are left at group 1 and at
-/// group 2, and whether the bit of group 1 is set. Our own.
-pub(crate) fn end(core: Core, mut first: Seat, second: Seat) -> Result<(usize, usize, bool), Memory>
-    requires first { IsOf core first × IsAtRest (view_of first) }
-    requires second { IsOf core second × IsAtRest (view_of second) }
+/// Joins the second seat, and leaves the core. Our own.
+pub(crate) fn join<'a>(mut first: Seat<'a>, second: Seat<'a>) -> FirstSeat
+    requires core { second.core ≡ first.core }
+    requires rest { IsAtRest (view_of first) × IsAtRest (view_of second) }
     requires standing { (view_of first).standing ≡ with_split at_first }
+    ensures first { IsFirstOf first.entry.core result }
+    ensures whole { IsWhole (first_view result).standing }
 {
-    core.join(&mut first, second);
+    first.join(second);
+    first.leave()
+}
+
+/// Ends the core: how many objects of id 0 are left at group 1 and at group 2, and whether the bit
+/// of group 1 is set. Our own.
+pub(crate) fn end(core: Core, first: FirstSeat) -> Result<(usize, usize, bool), Memory>
+    requires first { IsFirstOf core first }
+    requires whole { IsWhole (first_view first).standing }
+{
     let closed = core.finish(first)?;
     Ok((
         objects_at(&closed, place_of(1)),

@@ -3,7 +3,7 @@
 use crate::acts::Act::{Del, Get, Pin, Put, Scan};
 use crate::acts::Heard;
 use crate::calls::place_of;
-use crate::desk::{Desk, Row, Sizes, WIDE};
+use crate::desk::{Desk, Row, Sizes, WIDE, open};
 use shr_base::places::Place;
 use shr_base::replies::{HalfWhy, Spent};
 use shr_registry::answers::{FindAnswer, RegisterAnswer, UnregisterAnswer};
@@ -51,7 +51,8 @@ fn half<R: Wait>(
     rt: &R,
     alloc: Global,
 ) -> Result<(bool, Option<HalfWhy>, Option<RegisterAnswer>), Fail> {
-    let mut desk = Desk::new(rt, alloc, SHORT)?;
+    let (core, first) = open(alloc, SHORT)?;
+    let mut desk = Desk::new(rt, &core, first)?;
     let is_told = desk.first_unlike(rt, &USED_UP).is_none();
     let why = why_half(desk.unregister(rt, 0));
     Ok((is_told, why, desk.register(rt, 0)))
@@ -78,7 +79,8 @@ fn drained<R: Wait>(rt: &R, alloc: Global) -> Result<(Heard, Heard, Option<(u16,
         id: 1,
         ..place_of(0)
     };
-    let mut desk = Desk::new(rt, alloc, SHORT)?;
+    let (core, first) = open(alloc, SHORT)?;
+    let mut desk = Desk::new(rt, &core, first)?;
     desk.turn(rt, 1);
     let added = desk.make(rt, Put, other, b"c");
     let dropped = desk.make(rt, Del, other, b"c");
@@ -100,7 +102,8 @@ fn last_lookup<R: Wait>(rt: &R, alloc: Global) -> Result<(u32, Option<FindAnswer
         first_lookup: 4_294_967_039,
         ..WIDE
     };
-    let mut desk = Desk::new(rt, alloc, last)?;
+    let (core, first) = open(alloc, last)?;
+    let mut desk = Desk::new(rt, &core, first)?;
     Ok((desk.number, desk.turn(rt, 0)))
 }
 
@@ -123,7 +126,8 @@ fn turned<R: Wait>(
     alloc: Global,
     turns: u32,
 ) -> Result<(Option<(u16, u32)>, Option<RegisterAnswer>), Fail> {
-    let mut desk = Desk::new(rt, alloc, WIDE)?;
+    let (core, first) = open(alloc, WIDE)?;
+    let mut desk = Desk::new(rt, &core, first)?;
     for _turn in 0..turns {
         desk.unregister(rt, 0);
         desk.register(rt, 0);

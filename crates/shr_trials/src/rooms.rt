@@ -33,8 +33,9 @@ fn small_shape(rt: &HostRuntime) -> Result<Shape, Fail>
 
 #[test]
 fn a_room_that_another_seat_has_is_not_taken_by_a_try(rt: HostRuntime) -> Result<(), Fail> {
-    let (core, mut first) = Core::new(rt.alloc(), small_shape(&rt)?, 0)?;
-    let mut second = core.split(&mut first)?;
+    let (core, first) = Core::new(rt.alloc(), small_shape(&rt)?, 0)?;
+    let mut first = first.at(&core);
+    let mut second = first.split()?;
     let taken = Place {
         id: 0,
         node: 0,
@@ -45,13 +46,11 @@ fn a_room_that_another_seat_has_is_not_taken_by_a_try(rt: HostRuntime) -> Result
         node: 0,
         group: 2,
     };
-    let room = core.take_room(&rt, &mut first, taken);
-    assert!(rt; core.try_room(&mut second, taken).is_none());
-    let other = core
-        .try_room(&mut second, free)
-        .ok_or("the room is not free")?;
-    core.give_room(&mut second, other);
-    core.give_room(&mut first, room);
-    core.join(&mut first, second);
+    let room = first.take_room(&rt, taken);
+    assert!(rt; second.try_room(taken).is_none());
+    let other = second.try_room(free).ok_or("the room is not free")?;
+    second.give_room(other);
+    first.give_room(room);
+    first.join(second);
     Ok(())
 }

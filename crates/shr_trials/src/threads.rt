@@ -1,96 +1,80 @@
 //! Two threads at the lists of one cache. The test holds for every schedule.
 
-ghost use Rattle.std.specs.Prelude.{◌≡◌, ◌≤◌};
-ghost use Rattle.shr_core.specs.Seats.{IsOf, view_of};
+ghost use Rattle.std.specs.Prelude.{◌≤◌};
+ghost use Rattle.shr_core.specs.Seats.{view_of};
 ghost use Rattle.shr_core.specs.Steps.{IsAtRest};
-ghost use Rattle.shr_trials.specs.Calm.{IsCalm};
+ghost use Rattle.shr_trials.specs.Calm.{IsCalm, StaysCalm};
 
 use crate::calls::{close, count, place_of, put, rest};
-use crate::desk::{end, pair};
+use crate::desk::{WIDE, end, join, open, pair};
 use shr_core::seat::Seat;
-use shr_core::table::Core;
 use shr_node::answers::{NodeAdd, SpliceAnswer};
 use std::sync::Wait;
 use std::test::Fail;
 use std::thread;
 
 // Adds an object of group 2 with a key of its own, and says how many were added.
-fn add_one<R: Wait>(rt: &R, core: &Core, seat: &mut Seat, number: u16) -> usize
-    requires seat { IsOf core.now seat.old }
-    requires calm { IsCalm (view_of seat.old) }
-    ensures seat { IsOf core.now seat.new }
-    ensures calm { IsCalm (view_of seat.new) }
-    ensures standing { (view_of seat.new).standing ≡ (view_of seat.old).standing }
+fn add_one<R: Wait>(rt: &R, seat: &mut Seat<'_>, number: u16) -> usize
+    requires { IsCalm (view_of seat.old) }
+    ensures calm { StaysCalm seat.old seat.new }
     ensures one { result ≤ 1 }
 {
     let key = number.to_le_bytes();
-    match put(rt, core, seat, place_of(2), &key) {
+    match put(rt, seat, place_of(2), &key) {
         Some(NodeAdd::Added { at: _ }) => 1,
         _ => 0,
     }
 }
 
 // Adds 300 objects of group 2, and says how many were added.
-fn fill<R: Wait>(rt: &R, core: &Core, mut seat: Seat) -> (Seat, usize)
-    requires seat { IsOf core.now seat }
-    requires calm { IsCalm (view_of seat) }
-    ensures seat { IsOf core.now result.0 }
-    ensures rest { IsAtRest (view_of result.0) }
-    ensures standing { (view_of result.0).standing ≡ (view_of seat).standing }
+fn fill<R: Wait>(rt: &R, seat: &mut Seat<'_>) -> usize
+    requires { IsCalm (view_of seat.old) }
+    ensures calm { StaysCalm seat.old seat.new }
+    ensures rest { IsAtRest (view_of seat.new) }
 {
     let mut added = 0;
     for number in 0..300 {
-        added += add_one(rt, core, &mut seat, number);
+        added += add_one(rt, seat, number);
     }
-    rest(core, &mut seat);
-    (seat, added)
+    rest(seat);
+    added
 }
 
 // Counts the list of group 2 until it has so many objects, ten million times at the most.
-fn wait_for(core: &Core, seat: &mut Seat, objects: u32)
-    requires seat { IsOf core.now seat.old }
-    requires calm { IsCalm (view_of seat.old) }
-    ensures seat { IsOf core.now seat.new }
-    ensures calm { IsCalm (view_of seat.new) }
+fn wait_for(seat: &mut Seat<'_>, objects: u32)
+    requires { IsCalm (view_of seat.old) }
+    ensures { StaysCalm seat.old seat.new }
 {
     for _turn in 0..10_000_000 {
-        if count(core, seat, place_of(2)).is_some_and(|seen| seen.len >= objects) {
+        if count(seat, place_of(2)).is_some_and(|seen| seen.len >= objects) {
             return;
         }
     }
 }
 
 // Splices group 2 while objects are added to it.
-fn splice_between<R: Wait>(rt: &R, core: &Core, mut seat: Seat) -> (Seat, Option<SpliceAnswer>)
-    requires seat { IsOf core.now seat }
-    requires calm { IsCalm (view_of seat) }
-    ensures seat { IsOf core.now result.0 }
-    ensures rest { IsAtRest (view_of result.0) }
+fn splice_between<R: Wait>(rt: &R, seat: &mut Seat<'_>) -> Option<SpliceAnswer>
+    requires { IsCalm (view_of seat.old) }
+    ensures calm { StaysCalm seat.old seat.new }
+    ensures rest { IsAtRest (view_of seat.new) }
 {
-    wait_for(core, &mut seat, 100);
-    let answer = close(rt, core, &mut seat, place_of(2));
-    rest(core, &mut seat);
-    (seat, answer)
+    wait_for(seat, 100);
+    let answer = close(rt, seat, place_of(2));
+    rest(seat);
+    answer
 }
 
 #[test]
 fn adds_beside_a_splice_lose_no_object(rt: HostRuntime) -> Result<(), Fail> {
-    let (table, first, second) = pair(&rt, rt.alloc())?;
-    let core = &table;
-    let waiting = &rt;
-    let ((first, added), (second, answer)) = thread::join(
+    let (table, first) = open(rt.alloc(), WIDE)?;
+    let (mut first, mut second) = pair(&rt, &table, first)?;
+    let (added, answer) = thread::join_mut(
         &rt,
-        move ||
-            requires { IsOf core.now first × IsCalm (view_of first) }
-            ensures { IsOf core.entry.now result.0 × IsAtRest (view_of result.0)
-                × ((view_of result.0).standing ≡ (view_of first).standing) }
-        { fill(waiting, core, first) },
-        move ||
-            requires { IsOf core.now second × IsCalm (view_of second) }
-            ensures { IsOf core.entry.now result.0 × IsAtRest (view_of result.0) }
-        { splice_between(waiting, core, second) },
+        &mut || fill(&rt, &mut first),
+        &mut || splice_between(&rt, &mut second),
     );
-    let left = end(table, first, second)?;
+    let first = join(first, second);
+    let left = end(table, first)?;
     let spliced = matches!(&answer, Some(SpliceAnswer::Spliced { moved: _ }));
     // Each add went to the child's list before the splice, or to the parent's after it.
     assert_eq!(rt; (added, spliced, left), (300, true, (300, 0, true)));

@@ -1,7 +1,7 @@
 //! A lookup word and a count word at known values.
 
 use crate::acts::Act::{Del, Put};
-use crate::desk::{Desk, Row, WIDE};
+use crate::desk::{Desk, Row, WIDE, open};
 use shr_base::ends::LookupWord;
 use shr_core::counts::Seen;
 use std::alloc::Global;
@@ -16,7 +16,8 @@ const ADD_AND_DROP: [Row; 2] = [
 // The word of an id that is held by its first lookup, and the count of a list after an add and a
 // drop.
 fn words<R: Wait>(rt: &R, alloc: Global) -> Result<(Option<LookupWord>, Option<Seen>), Fail> {
-    let mut desk = Desk::new(rt, alloc, WIDE)?;
+    let (core, first) = open(alloc, WIDE)?;
+    let mut desk = Desk::new(rt, &core, first)?;
     if desk.first_unlike(rt, &ADD_AND_DROP).is_some() {
         return Err(Fail::from("another answer"));
     }

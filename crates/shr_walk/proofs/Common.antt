@@ -30,20 +30,18 @@ pub use Rattle.shr_base.specs.declared.walks.PassRecord.{PassRecord}
 pub use Rattle.shr_base.specs.declared.walks.WalkAnswer.{WalkAnswer}
 pub use Rattle.shr_base.specs.declared.walks.WalkAnswer.TheVariants.{Memory, Walked}
 pub use Rattle.shr_charge.specs.Charging.{AreDowns, AreRising, IsDown, calls_with, use_group}
-pub use Rattle.shr_charge.specs.Seat.{IsChargeSeat, counted, spent_by, standing_of, tree_of, uses_of}
+pub use Rattle.shr_charge.specs.Seat.{ChargeSeated, counted, spent_by, standing_of, tree_of, uses_of}
 pub use Rattle.shr_charge.specs.Views.{TreeView, Uses, both_uses}
 pub use Rattle.shr_charge.specs.declared.answers.GroupState.{GroupState}
 pub use Rattle.shr_charge.specs.declared.answers.GroupState.TheVariants.{NotMade, Offline, Online}
-pub use Rattle.shr_charge.specs.declared.table.ChargeSeat.{ChargeSeat}
 pub use Rattle.shr_core.proofs.Gains.{adds_none, adds_then, gained_alone, of_clear, of_leave, of_lookup, of_map, of_put, of_set, of_word}
 pub use Rattle.shr_core.specs.Answers.{Finds}
 pub use Rattle.shr_core.specs.Gained.{Adds, AreKinds, Gained, IsIdle, nothing, then_gained}
 pub use Rattle.shr_core.specs.Layout.{map_number}
 pub use Rattle.shr_core.specs.Parts.{Claims, Counted, Known, Loaded, Made, Mapped, Tried, Turns}
 pub use Rattle.shr_core.specs.Rule.{AreBorn}
-pub use Rattle.shr_core.specs.Seats.{IsPlaceOfShape, shape_of, view_of}
+pub use Rattle.shr_core.specs.Seats.{IsPlaceOfShape, Seated, shape_of, view_of}
 pub use Rattle.shr_core.specs.Steps.{with_clear, with_count, with_leave, with_lookup, with_map, with_put, with_set, with_word}
-pub use Rattle.shr_core.specs.declared.seat.Seat.{Seat}
 pub use Rattle.shr_core.specs.declared.view.View.{View}
 pub use Rattle.shr_deferred.specs.Moves.{Moves, both, no_moves}
 pub use Rattle.shr_list.specs.Answers.{scan_entry}
@@ -76,7 +74,7 @@ pub use Rattle.shr_walk.specs.Balances.{AreWalked, HadMemory, IsBalanceCut, IsBa
 pub use Rattle.shr_walk.specs.Fresh.{AreFresh, IsFreshAt, Rising}
 pub use Rattle.shr_walk.specs.Keeping.{AllUncharged, IsCountAt, IsScanAt, IsScanOf, Keeps, Uncharged, Walks, born_none, born_then, objects_freed, fresh_earlier, keeps_refl, shared_parents, paths_of, uncharged_none, uncharged_then, uses_same}
 pub use Rattle.shr_walk.specs.ListScans.{FindsUsedUp, HaveRoom, ListScanGives, ListerAnswers, without_visits}
-pub use Rattle.shr_walk.specs.Listing.{AreChargesTold, IsReady, Tells, WornTold, count_at, count_kind, counts_at, ready_stays, scan_at, list_scan_by, scans_at}
+pub use Rattle.shr_walk.specs.Listing.{AreChargesTold, IsReady, IsReadyAs, Tells, WornTold, count_at, count_kind, counts_at, ready_stays, scan_at, list_scan_by, scans_at}
 pub use Rattle.shr_walk.specs.Records.{AreLater, AreScannedBy, AreStopped, IsKindByFloor, IsScanMade, cleared_by_outcome, counts_of_outcome, gained_in, is_setting, place_of_walk, set_by_outcome}
 pub use Rattle.shr_walk.specs.Sharing.{IsDeepest, IsShapeOf, IsShared, groups_of}
 pub use Rattle.shr_walk.specs.Shown.{HasShown, IsWalkSeen, PassSeen, WornSeen}

@@ -1,16 +1,14 @@
 -- What a visit comes to whose bit was cleared, by its second pass.
-use Rattle.shr_walk.proofs.Common.{◌≡◌, ℕ, ◌<◌, sym, ap, subst, refl, ◌∙◌, Place, Outcome, place_number, ChargeSeat, View, view_of, with_clear, Count, ScanSeen, ScanAnswer, PassAnswer, List, CacheSeat, Shared, IsReady, IsCleared, IsSet, PassMade, VisitGives, IfEmptyPass, RestoreGives, visit_moves}
-use Rattle.shr_charge.specs.Seat as charge
-use Rattle.shr_core.specs.Seats as core
+use Rattle.shr_walk.proofs.Common.{◌≡◌, ℕ, ◌<◌, sym, ap, subst, refl, ◌∙◌, Place, Outcome, place_number, ChargeSeated, View, view_of, with_clear, Count, ScanSeen, ScanAnswer, PassAnswer, List, CacheSeat, IsReadyAs, IsCleared, IsSet, PassMade, VisitGives, IfEmptyPass, RestoreGives, visit_moves}
 use Rattle.shr_pass.specs.Passes.{moves_by}
 use Rattle.shr_pass.specs.declared.answers.PassAnswer.TheVariants as pass
 use Rattle.shr_walk.proofs.Window.{Owes, recounted, restored}
 
 -- a seat whose bit was set is ready still
-set_ready : (x : Shared) (place : Place) (u w : CacheSeat) → IsReady x place u → core.IsOf x.core w.core → IsSet place u w → IsReady x place w
-set_ready x place u w r is set = record {
-  core = is;
-  charge = subst (λ (c : ChargeSeat). charge.IsChargeSeat x.charge c) (sym set.charge) r.charge;
+set_ready : (first : CacheSeat) (place : Place) (u w : CacheSeat) → IsReadyAs first place u → IsSet place u w → IsReadyAs first place w
+set_ready first place u w r set = record {
+  core = set.table ∙ r.core;
+  charge = ap (λ (c : ChargeSeated). c.charge) set.charge ∙ r.charge;
   rooms = ap (λ (v : View). v.holding) set.core ∙ r.rooms;
   held = ap (λ (v : View). v.claims.held) set.core ∙ r.held;
   owner = ap (λ (v : View). v.claims.owner) set.core ∙ r.owner;
@@ -24,10 +22,10 @@ empty_weaker (pass.Ran p) f h = tt
 
 module _ (place : Place) (number first : ℕ) where
   -- and so is it after either end of the window
-  pub ready_restored : (x : Shared) (answer : PassAnswer) (o : Outcome) (u w : CacheSeat) → IsReady x place u → core.IsOf x.core w.core → RestoreGives place number first answer o u w → IsReady x place w
-  ready_restored x (pass.Empty version) o u w r is (e, same) = subst (IsReady x place) (sym same) r
-  ready_restored x (pass.Skip len version) o u w r is (e, set) = set_ready x place u w r is set
-  ready_restored x (pass.Ran p) o u w r is (e, set) = set_ready x place u w r is set
+  pub ready_restored : (old : CacheSeat) (answer : PassAnswer) (o : Outcome) (u w : CacheSeat) → IsReadyAs old place u → RestoreGives place number first answer o u w → IsReadyAs old place w
+  ready_restored old (pass.Empty version) o u w r (e, same) = subst (IsReadyAs old place) (sym same) r
+  ready_restored old (pass.Skip len version) o u w r (e, set) = set_ready old place u w r set
+  ready_restored old (pass.Ran p) o u w r (e, set) = set_ready old place u w r set
 
   -- no place is owed that wasn't before
   pub owed_restored : (old s t : View) (a : (k : ℕ) → Owes s k → Owes old k) (cleared : t ≡ with_clear s (place_number place)) (answer : PassAnswer) (o : Outcome) (u w : CacheSeat) (b : (k : ℕ) → Owes (view_of u.core) k → Owes t k)

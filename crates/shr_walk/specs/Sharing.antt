@@ -1,5 +1,6 @@
 -- What the workers share belongs together.
-use Rattle.std.specs.Prelude.{◌≡◌, ℕ, ◌^◌, ◌<◌, ◌≤◌, false, List, [], ◌∷◌, map, length, None}
+use Rattle.std.specs.Prelude.{◌≡◌, ℕ, ◌^◌, ◌<◌, ◌≤◌, false, true, List, [], ◌∷◌, map, length, None}
+use Rattle.shr_base.specs.Kept.{kept}
 use Rattle.shr_base.specs.declared.scripts.GroupDecl.{GroupDecl}
 use Rattle.shr_base.specs.declared.scripts.Script.{Script}
 use Rattle.shr_model.specs.Groups.{depth_of}
@@ -7,17 +8,20 @@ use Rattle.shr_model.specs.Paths.{root_path}
 use Rattle.shr_script.specs.Content.{content_of, IsValid}
 use Rattle.shr_tree.specs.Tree.{Groups}
 use Rattle.shr_seats.specs.declared.shape.Shape.{Shape}
-use Rattle.shr_core.specs.Seats.{shape_of}
-use Rattle.shr_core.specs.Seats.{view_of}
+use Rattle.shr_core.specs.Seats.{shape_of, view_of, first_view}
+use Rattle.shr_core.specs.Seating.{IsFirstOf}
+use Rattle.shr_core.specs.declared.table.Core.{Core}
 use Rattle.shr_core.specs.Rule.{opener}
 use Rattle.shr_seats.specs.Standing.{at_first}
-use Rattle.shr_charge.specs.Seat.{uses_of, tree_of}
-use Rattle.shr_charge.specs.Seat as charges
+use Rattle.shr_charge.specs.Seat.{IsFirstChargeOf, first_uses, first_tree, first_standing, uses_of, tree_of, standing_of}
 use Rattle.shr_charge.specs.Views.{own_uses, no_tree}
-use Rattle.shr_deferred.specs.Seat.{moves_of, strands_of}
+use Rattle.shr_charge.specs.declared.table.Charge.{Charge}
+use Rattle.shr_charge.specs.Seat as charges
+use Rattle.shr_deferred.specs.Rule as rule
 use Rattle.shr_deferred.specs.Seat as deferreds
-use Rattle.shr_deferred.specs.Moves.{no_moves}
-use Rattle.shr_walk.specs.State.{IsRested}
+use Rattle.shr_deferred.specs.Seat.{IsFirstDeferredOf, first_deferred, deferred_standing}
+use Rattle.shr_deferred.specs.declared.table.Deferred.{Deferred}
+use Rattle.shr_walk.specs.declared.seats.FirstSeats.{FirstSeats}
 use Rattle.shr_walk.specs.declared.seats.Seats.{Seats}
 use Rattle.shr_walk.specs.declared.seats.Shared.{Shared}
 
@@ -72,16 +76,46 @@ pub record IsFromStart (x : Shared) : Type 0 where
   pub most_items : (shape_of x.core).most_items ≡ 20000
   pub most_entries : (shape_of x.core).most_entries ≡ 2 ^ 31
 
--- the first seats of new tables: they have done and seen nothing, and nothing is noted
-pub record AreOpened (x : Shared) (s : Seats) : Type 0 where
-  pub rested : IsRested x s
-  pub core : view_of s.cache.core ≡ opener
-  pub uses : uses_of s.cache.charge ≡ own_uses
-  pub tree : tree_of s.cache.charge ≡ no_tree
-  pub charged : charges.standing_of s.cache.charge ≡ at_first
-  pub moves : moves_of s.deferred ≡ no_moves
-  pub strands : strands_of s.deferred ≡ no_moves ∷ []
-  pub deferred : deferreds.deferred_standing s.deferred ≡ at_first
-  pub noted : s.cache.uses.items ≡ []
-  pub walks : s.walks.items ≡ []
-  pub carries : s.carries.items ≡ []
+-- these are the first seats of these tables
+pub record AreFirstOf (k : Core) (c : Charge) (d : Deferred) (f : FirstSeats) : Type 0 where
+  pub core : IsFirstOf k f.core
+  pub charge : IsFirstChargeOf c f.charge
+  pub deferred : IsFirstDeferredOf d f.deferred
+
+-- the first seats of new tables: they have done and seen nothing
+pub record AreOpened (x : Shared) (f : FirstSeats) : Type 0 where
+  pub first : AreFirstOf x.core x.charge x.deferred f
+  pub core : first_view f.core ≡ opener
+  pub uses : first_uses f.charge ≡ own_uses
+  pub tree : first_tree f.charge ≡ no_tree
+  pub charged : first_standing f.charge ≡ at_first
+  pub deferred : first_deferred f.deferred ≡ rule.first_view
+
+-- the first seats at their tables, with nothing noted
+abbrev pub seats_at : Shared → FirstSeats → Seats
+seats_at x f = record {
+  cache = record {
+    core = record { core = x.core; view = first_view f.core };
+    charge = charges.first_seated x.charge f.charge;
+    uses = kept [];
+  };
+  deferred = deferreds.first_seated x.deferred f.deferred;
+  walks = kept [];
+  carries = kept [];
+}
+
+-- the first seats of their tables, with no room in hand
+pub record MayLeave (s : Seats) : Type 0 where
+  pub core : (view_of s.cache.core).standing.first ≡ true
+  pub rooms : (view_of s.cache.core).holding.hands ≡ []
+  pub charge : (standing_of s.cache.charge).first ≡ true
+  pub deferred : (deferred_standing s.deferred).first ≡ true
+
+-- the first seats, as these left their tables
+pub record HaveLeft (s : Seats) (f : FirstSeats) : Type 0 where
+  pub first : AreFirstOf s.cache.core.core s.cache.charge.charge s.deferred.deferred f
+  pub core : first_view f.core ≡ view_of s.cache.core
+  pub uses : first_uses f.charge ≡ uses_of s.cache.charge
+  pub tree : first_tree f.charge ≡ tree_of s.cache.charge
+  pub charged : first_standing f.charge ≡ standing_of s.cache.charge
+  pub deferred : first_deferred f.deferred ≡ s.deferred.view

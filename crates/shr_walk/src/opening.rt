@@ -3,9 +3,9 @@
 ghost use Rattle.std.specs.Prelude.{◌≡◌, IfOk, OnOk};
 ghost use Rattle.shr_tree.specs.Tree.{with_group, refusal_of, Refuses};
 ghost use Rattle.shr_script.specs.Content.{Content, content_of, IsValid};
-ghost use Rattle.shr_walk.specs.Sharing.{groups_of, IsDeepest, IsShapeOf, IsShared, IsFromStart, AreOpened};
+ghost use Rattle.shr_walk.specs.Sharing.{groups_of, IsDeepest, IsShapeOf, IsShared, IsFromStart, AreFirstOf, AreOpened, HaveLeft, MayLeave, seats_at};
 
-use crate::seats::{CacheSeat, Seats, Shared};
+use crate::seats::{CacheSeat, FirstSeats, Seats, Shared};
 use shr_base::log::Log;
 use shr_base::memory::Memory;
 use shr_base::scripts::{GroupDecl, Script};
@@ -88,7 +88,7 @@ fn deepest(tree: &Tree) -> u16
 impl Shared {
     /// The tables of a valid script and the first seats, which have done and seen nothing. No cache
     /// is registered yet. `Memory` comes for want of memory. Our own.
-    pub fn open(alloc: Global, script: Script) -> Result<(Shared, Seats), Memory>
+    pub fn open(alloc: Global, script: Script) -> Result<(Shared, FirstSeats), Memory>
         requires { IsValid (content_of script) }
         ensures shared { IfOk result (λ t. IsShared t.0) }
         ensures script { IfOk result (λ t. t.0.script ≡ script) }
@@ -97,9 +97,9 @@ impl Shared {
     {
         let tree = tree_of(alloc, script.groups.as_slice())?;
         let shape = shape_of(&script, &tree)?;
-        let (deferred, deferred_seat) = Deferred::new(alloc, shape.sizes())?;
-        let (charge, charge_seat) = Charge::new(alloc, shape)?;
-        let (core, core_seat) = Core::new(alloc, shape_of(&script, &tree)?, 0)?;
+        let (deferred, first_deferred) = Deferred::new(alloc, shape.sizes())?;
+        let (charge, first_charge) = Charge::new(alloc, shape)?;
+        let (core, first_core) = Core::new(alloc, shape_of(&script, &tree)?, 0)?;
         let deepest = deepest(&tree);
         let shared = Shared {
             core,
@@ -109,16 +109,61 @@ impl Shared {
             tree,
             deepest,
         };
-        let seats = Seats {
+        let first = FirstSeats {
+            core: first_core,
+            charge: first_charge,
+            deferred: first_deferred,
+        };
+        Ok((shared, first))
+    }
+}
+
+impl FirstSeats {
+    /// The seats at their tables, with nothing noted. Our own.
+    pub fn at<'a>(self, shared: &'a Shared) -> Seats<'a>
+        requires first { AreFirstOf shared.now.core shared.now.charge shared.now.deferred self }
+        ensures at { result ≡ seats_at shared.now self }
+    {
+        let FirstSeats {
+            core,
+            charge,
+            deferred,
+        } = self;
+        let alloc = shared.core.alloc;
+        Seats {
             cache: CacheSeat {
-                core: core_seat,
-                charge: charge_seat,
+                core: core.at(&shared.core),
+                charge: charge.at(&shared.charge),
                 uses: Log::new(alloc),
             },
-            deferred: deferred_seat,
+            deferred: deferred.at(&shared.deferred),
             walks: Log::new(alloc),
             carries: Log::new(alloc),
-        };
-        Ok((shared, seats))
+        }
+    }
+}
+
+impl<'a> Seats<'a> {
+    /// The first seats, to end the tables with. What was noted is dropped. Our own.
+    pub fn leave(self) -> FirstSeats
+        requires first { MayLeave self }
+        ensures left { HaveLeft self.entry result }
+    {
+        let Seats {
+            cache,
+            deferred,
+            walks: _,
+            carries: _,
+        } = self;
+        let CacheSeat {
+            core,
+            charge,
+            uses: _,
+        } = cache;
+        FirstSeats {
+            core: core.leave(),
+            charge: charge.leave(),
+            deferred: deferred.leave(),
+        }
     }
 }

@@ -34,7 +34,7 @@ use std::sync::Wait;
 pub struct Worker<'a, R: Wait> {
     pub rt: &'a R,
     pub shared: &'a Shared,
-    pub seats: Seats,
+    pub seats: Seats<'a>,
     pub by: Serial,
 }
 
@@ -84,7 +84,7 @@ impl<'a, R: Wait> Worker<'a, R> {
     pub fn spent(&self) -> Option<Spent>
         ensures { result ≡ spent_by self.now.state.uses }
     {
-        self.shared.charge.spent(&self.seats.cache.charge)
+        self.seats.cache.charge.spent()
     }
 
     // The next walk, with room for its record. So many walks that it would be 2^63 no machine has
@@ -138,15 +138,14 @@ impl<'a, R: Wait> Worker<'a, R> {
             × (group < groups_in (shape_of self.old.shared.core))
             × (64 * unit < (shape_of self.old.shared.core).ids) }
         requires below_root { 0 < group }
-        ensures loaded { self.new.state ≡ record self.old.state {
-          core = with_map self.old.state.core (map_number node group unit) result;
+        ensures loaded { self.new ≡ record self.old {
+          state = record self.old.state {
+            core = with_map self.old.state.core (map_number node group unit) result;
+          };
         } }
         ensures ids { IsOfIds (shape_of self.old.shared.core).ids unit result }
-        ensures still { IsStill self.old self.new }
     {
-        self.shared
-            .core
-            .map(&mut self.seats.cache.core, node, group, unit)
+        self.seats.cache.core.map(node, group, unit)
     }
 
     /// Loads the word of a group.
@@ -161,9 +160,7 @@ impl<'a, R: Wait> Worker<'a, R> {
             group result }
         ensures still { IsStill self.old self.new }
     {
-        self.shared
-            .charge
-            .state(&mut self.seats.cache.charge, group)
+        self.seats.cache.charge.state(group)
     }
 
     // Notes a walk, in the room that was made for it.

@@ -13,15 +13,13 @@ use Rattle.shr_base.specs.declared.journals.PoolEntry.{PoolEntry}
 use Rattle.shr_base.specs.declared.journals.Entry.{Entry}
 use Rattle.shr_list.specs.Listed.{Listed}
 use Rattle.shr_core.specs.declared.view.View.{View}
-use Rattle.shr_core.specs.declared.seat.Seat.{Seat}
 use Rattle.shr_seats.specs.declared.shape.Shape.{Shape}
 use Rattle.shr_core.specs.declared.setting.Setting.{Setting}
 use Rattle.shr_core.specs.declared.lookups.Lookup.TheVariants as lookup
 use Rattle.shr_core.specs.Answers.{Finds}
 use Rattle.shr_core.specs.Parts.{Made, Claims, no_rooms}
 use Rattle.shr_core.specs.Gained.{Gained, IsIdle, OwesNoMore}
-use Rattle.shr_core.specs.Seats.{IsPlaceOfShape, view_of, shape_of}
-use Rattle.shr_core.specs.Seats as core
+use Rattle.shr_core.specs.Seats.{Seated, IsPlaceOfShape, view_of, shape_of}
 use Rattle.shr_core.specs.Steps.{with_put, with_word, without_id}
 use Rattle.shr_core.proofs.Owing.{still_none}
 use Rattle.shr_node.specs.declared.answers.NodeAdd.{NodeAdd}
@@ -62,10 +60,10 @@ owes_none v id word none = by_test (word.phase % 3 == 1)
     by_test true = none
     by_test false = ap (without_id id) none
 
-pub seated : (x : Shared) (s : Seats) (seat : Seat) → IsFit x s → core.IsOf x.core seat → Leaves (view_of s.cache.core) (view_of seat) → IsFit x (with_core s seat)
+pub seated : (x : Shared) (s : Seats) (seat : Seated) → IsFit x s → seat.core ≡ s.cache.core.core → Leaves (view_of s.cache.core) (view_of seat) → IsFit x (with_core s seat)
 seated x s seat h is left = record {
   shared = h.shared;
-  rested = record { core = is; idle = left.idle; owed = left.owed h.rested.owed; charge = h.rested.charge; deferred = h.rested.deferred };
+  rested = record { core = is ∙ h.rested.core; idle = left.idle; owed = left.owed h.rested.owed; charge = h.rested.charge; deferred = h.rested.deferred };
 }
 
 -- ---- the registry
@@ -93,11 +91,11 @@ leaves_gone v w id number idle f = let a = looked_gone v w id number idle.held f
 pub leaves_worn : (v w : View) (id seen : ℕ) → IsIdle v → Finds v id w (lookup.Worn seen) → Leaves v w
 leaves_worn v w id seen idle f = let a = looked_worn v w id seen idle.held f in record { idle = record { rooms = a.holding ∙ idle.rooms; held = a.held; owner = a.owner ∙ idle.owner }; owed = λ none. ap (λ (y : View). y.marks.owed) f.step ∙ owes_none v id f.first none }
 
-pub holder_of : (x : Shared) (place : Place) (s : Seats) (seat : Seat) (number decl : ℕ) → IsFit x s → IsPlaceOfShape (shape_of x.core) place → core.IsOf x.core seat → Finds (view_of s.cache.core) place.id (view_of seat) (lookup.Held number decl) → IsHolder x place (with_core s seat)
+pub holder_of : (x : Shared) (place : Place) (s : Seats) (seat : Seated) (number decl : ℕ) → IsFit x s → IsPlaceOfShape (shape_of x.core) place → seat.core ≡ s.cache.core.core → Finds (view_of s.cache.core) place.id (view_of seat) (lookup.Held number decl) → IsHolder x place (with_core s seat)
 holder_of x place s seat number decl h inside is f = let v = view_of s.cache.core in let w = view_of seat in let a = looked_held v w place.id number decl h.rested.idle.held f in record {
   shared = h.shared;
   inside = inside;
-  core = is;
+  core = is ∙ h.rested.core;
   rooms = a.holding ∙ h.rested.idle.rooms;
   held = a.held;
   owner = a.owner ∙ h.rested.idle.owner;
@@ -106,13 +104,13 @@ holder_of x place s seat number decl h inside is f = let v = view_of s.cache.cor
   deferred = h.rested.deferred;
 }
 
-pub seated_again : (x : Shared) (place : Place) (s : Seats) (seat : Seat) → IsHolder x place s → core.IsOf x.core seat → view_of seat ≡ with_put (view_of s.cache.core) → IsFit x (with_core s seat)
-seated_again x place s seat h is e = record {
+pub seated_again : (x : Shared) (place : Place) (s : Seats) (seat : Seated) → IsHolder x place s → seat ≡ record s.cache.core { view = with_put (view_of s.cache.core) } → IsFit x (with_core s seat)
+seated_again x place s seat h e = record {
   shared = h.shared;
   rested = record {
-    core = is;
-    idle = record { rooms = ap (λ (y : View). y.holding) e ∙ h.rooms; held = ap (λ (y : View). y.claims.held) e; owner = ap (λ (y : View). y.claims.owner) e ∙ h.owner };
-    owed = ap (λ (y : View). y.marks.owed) e ∙ h.owed;
+    core = ap (λ (y : Seated). y.core) e ∙ h.core;
+    idle = record { rooms = ap (λ (y : Seated). y.view.holding) e ∙ h.rooms; held = ap (λ (y : Seated). y.view.claims.held) e; owner = ap (λ (y : Seated). y.view.claims.owner) e ∙ h.owner };
+    owed = ap (λ (y : Seated). y.view.marks.owed) e ∙ h.owed;
     charge = h.charge;
     deferred = h.deferred;
   };
@@ -130,11 +128,11 @@ pub record IsKept (v w : View) : Type 0 where
 kept : (v w : View) (more : List Made) (bits : List ℕ) → Gains v w more bits → IsKept v w
 kept v w more bits g = record { holding = g.holding; seen = g.adds.seen ∙ append-nil v.traces.seen; claims = g.marks; owed = g.owed }
 
-pub holder_still : (x : Shared) (place : Place) (s : Seats) (seat : Seat) → IsHolder x place s → core.IsOf x.core seat → IsKept (view_of s.cache.core) (view_of seat) → IsHolder x place (with_core s seat)
+pub holder_still : (x : Shared) (place : Place) (s : Seats) (seat : Seated) → IsHolder x place s → seat.core ≡ s.cache.core.core → IsKept (view_of s.cache.core) (view_of seat) → IsHolder x place (with_core s seat)
 holder_still x place s seat h is k = let same = k.claims h.owner in record {
   shared = h.shared;
   inside = h.inside;
-  core = is;
+  core = is ∙ h.core;
   rooms = k.holding ∙ h.rooms;
   held = ap (λ (c : Claims). c.held) same ∙ h.held;
   owner = ap (λ (c : Claims). c.owner) same ∙ h.owner;

@@ -2,19 +2,20 @@
 use Rattle.shr_base.specs.declared.places.Place.{Place}
 use Rattle.shr_core.specs.Gained.{OwesNoMore}
 use Rattle.shr_core.specs.Seats.{view_of}
-use Rattle.shr_walk.specs.Listing.{IsReady}
+use Rattle.shr_core.specs.declared.table.Core.{Core}
+use Rattle.shr_charge.specs.declared.table.Charge.{Charge}
+use Rattle.shr_walk.specs.Listing.{IsReadyOf}
 use Rattle.shr_walk.specs.declared.seats.CacheSeat.{CacheSeat}
-use Rattle.shr_walk.specs.declared.seats.Shared.{Shared}
 
--- a seat that was ready stays so, and owes no further place
-pub record Stays (x : Shared) (place : Place) (s t : CacheSeat) : Type 0 where
-  pub ready : IsReady x place s → IsReady x place t
+-- a seat that was ready at its tables stays so, and owes no further place
+pub record Stays (place : Place) (s t : CacheSeat) : Type 0 where
+  pub ready : (core : Core) (charge : Charge) → IsReadyOf core charge place s → IsReadyOf core charge place t
   pub owed : OwesNoMore (view_of s.core) (view_of t.core)
 
 -- what changes nothing keeps them
-pub stays_refl : (x : Shared) (place : Place) (s : CacheSeat) → Stays x place s s
-stays_refl x place s = record { ready = λ r. r; owed = λ k h. h }
+pub stays_refl : (place : Place) (s : CacheSeat) → Stays place s s
+stays_refl place s = record { ready = λ core charge r. r; owed = λ k h. h }
 
 -- and so do two calls, one after the other
-pub stays_trans : (x : Shared) (place : Place) (s t u : CacheSeat) → Stays x place s t → Stays x place t u → Stays x place s u
-stays_trans x place s t u a b = record { ready = λ r. b.ready (a.ready r); owed = λ k h. a.owed k (b.owed k h) }
+pub stays_trans : (place : Place) (s t u : CacheSeat) → Stays place s t → Stays place t u → Stays place s u
+stays_trans place s t u a b = record { ready = λ core charge r. b.ready core charge (a.ready core charge r); owed = λ k h. a.owed k (b.owed k h) }

@@ -59,11 +59,11 @@ fn kind_of(seen: Seen, floor: u32) -> Count
 
 impl<'a, R: Wait> Fake<'a, R> {
     // Adds the late object, where there is one.
-    fn add_late(&self, seat: &mut CacheSeat) -> Option<NodeAdd>
+    fn add_late(&self, seat: &mut CacheSeat<'_>) -> Option<NodeAdd>
         requires shared { IsShared self.now.shared.now }
         requires place { IsPlaceOfShape (shape_of self.now.shared.now.core) self.now.place }
         requires ready { IsReady self.now.shared.now self.now.place seat.old }
-        ensures stays { Stays self.now.shared.now self.now.place seat.old seat.new }
+        ensures stays { Stays self.now.place seat.old seat.new }
         ensures seen { (view_of seat.new.core).traces.seen ≡ (view_of seat.old.core).traces.seen }
     {
         if !self.late {
@@ -78,13 +78,12 @@ impl<'a, R: Wait> Fake<'a, R> {
             pinned: false,
         };
         let Place { id, node, group: _ } = self.place;
-        let core = &self.shared.core;
-        Some(add(self.rt, core, &mut seat.core, id, node, object))
+        Some(add(self.rt, &mut seat.core, id, node, object))
     }
 }
 
 impl<'a, R: Wait> Shrinker for Fake<'a, R> {
-    type Seat = CacheSeat;
+    type Seat = CacheSeat<'a>;
 
     ghost serves = { λ x. Some x.place };
 
@@ -96,7 +95,7 @@ impl<'a, R: Wait> Shrinker for Fake<'a, R> {
 
     ghost ready = { λ x s. IsShared x.shared.now × IsPlaceOfShape (shape_of x.shared.now.core) x.place × IsReady x.shared.now x.place s };
 
-    ghost kept = { λ x s t. Stays x.shared.now x.place s t };
+    ghost kept = { λ x s t. Stays x.place s t };
 
     ghost calls = { λ x. x.calls };
 
@@ -106,24 +105,24 @@ impl<'a, R: Wait> Shrinker for Fake<'a, R> {
 
     ghost told = { λ x a s. Unit {0} };
 
-    fn count(&mut self, seat: &mut CacheSeat) -> Count {
-        let seen = self.shared.core.count(&mut seat.core, self.place);
+    fn count(&mut self, seat: &mut CacheSeat<'a>) -> Count {
+        let seen = seat.core.count(self.place);
         let _added = self.add_late(seat);
         self.late = false;
         kind_of(seen, self.floor)
     }
 
-    fn scan(&mut self, _seat: &mut CacheSeat, _asked: u32) -> ScanAnswer {
+    fn scan(&mut self, _seat: &mut CacheSeat<'a>, _asked: u32) -> ScanAnswer {
         self.calls = self.calls.wrapping_add(1);
         self.last = Some(ScanAnswer::NoRoom);
         ScanAnswer::NoRoom
     }
 
-    ghost kept_refl = { λ x s. stays_refl x.shared.now x.place s };
+    ghost kept_refl = { λ x s. stays_refl x.place s };
 
-    ghost kept_trans = { λ x s t u a b. stays_trans x.shared.now x.place s t u a b };
+    ghost kept_trans = { λ x s t u a b. stays_trans x.place s t u a b };
 
-    ghost ready_stays = { λ x s t a b. (a.0, a.1, b.ready a.2) };
+    ghost ready_stays = { λ x s t a b. (a.0, a.1, b.ready _ _ a.2) };
 
     ghost told_stays = { λ x a s t b c. tt };
 }

@@ -1,11 +1,9 @@
 //! What isolations of one list come to, by its policy and objects and by their budget.
 
-ghost use Rattle.shr_walk.specs.Acting.{IsFit};
-
 use crate::commands::{Command, ask};
 use crate::desk::charges::wear;
 use crate::desk::left::place_of;
-use crate::desk::opening::{Desk, close, open, open_short, seats_of, worker_of};
+use crate::desk::opening::{open, open_short, worker_at};
 use shr_base::log::Log;
 use shr_base::places::Target;
 use shr_base::replies::{IsolateEnd, Reply, Spent};
@@ -73,20 +71,10 @@ const ROWS: [Row; 6] = [
 
 // What an isolation of two objects tells.
 fn told_of<R: Wait>(rt: &R, alloc: Global, row: &Row) -> Result<Option<Told>, Fail> {
-    let Desk {
-        shared,
-        first,
-        seats,
-    } = open(rt, alloc, row.0)?;
-    let mut worker = worker_of(rt, &shared, seats);
+    let (shared, first) = open(alloc, row.0)?;
+    let mut worker = worker_at(rt, &shared, first)?;
     put_two(&mut worker, row.1);
     let told = isolated(&mut worker, row.2);
-    let seats = seats_of(worker);
-    close(Desk {
-        shared,
-        first,
-        seats,
-    });
     Ok(told)
 }
 
@@ -107,28 +95,13 @@ fn isolations_end_as_their_lists_and_budgets_say(rt: HostRuntime) -> Result<(), 
     Ok(())
 }
 
-// An isolation at a desk whose list holds two objects.
-fn told_at<R: Wait>(rt: &R, desk: Desk, is_worn: bool) -> Option<Told>
-    requires { IsFit desk.shared desk.seats }
-{
-    let Desk {
-        shared,
-        first,
-        seats,
-    } = desk;
-    let mut worker = worker_of(rt, &shared, seats);
+// An isolation of a list of two objects.
+fn told_at<R: Wait>(mut worker: Worker<'_, R>, is_worn: bool) -> Option<Told> {
     put_two(&mut worker, b"none");
     if is_worn {
         wear(&mut worker);
     }
-    let told = isolated(&mut worker, 5);
-    let seats = seats_of(worker);
-    close(Desk {
-        shared,
-        first,
-        seats,
-    });
-    told
+    isolated(&mut worker, 5)
 }
 
 #[test]
@@ -137,8 +110,8 @@ fn a_seat_without_charges_isolates_nothing(rt: HostRuntime) -> Result<(), Fail> 
         charges: 1_048_576,
         uncharges: 0,
     };
-    let desk = open(&rt, rt.alloc(), PLAIN)?;
-    let told = told_at(&rt, desk, true);
+    let (shared, first) = open(rt.alloc(), PLAIN)?;
+    let told = told_at(worker_at(&rt, &shared, first)?, true);
     assert_eq!(rt; told, Some((0, 0, IsolateEnd::Worn { spent }, 1)));
     Ok(())
 }
@@ -152,8 +125,8 @@ fn a_list_whose_journal_is_full_is_not_isolated(rt: HostRuntime) -> Result<(), F
         entries: 4,
         items: 1,
     };
-    let desk = open_short(&rt, rt.alloc(), PLAIN, 3)?;
-    let told = told_at(&rt, desk, false);
+    let (shared, first) = open_short(rt.alloc(), PLAIN, 3)?;
+    let told = told_at(worker_at(&rt, &shared, first)?, false);
     assert_eq!(rt; told, Some((0, 0, IsolateEnd::Worn { spent }, 1)));
     Ok(())
 }

@@ -1,8 +1,7 @@
 //! The worked passes, over a fake that counts one number and answers its scans by a plan.
 
-ghost use Rattle.std.specs.Prelude.{None};
+ghost use Rattle.std.specs.Prelude.{◌≡◌, None};
 ghost use Rattle.shr_seats.specs.Rows.{IsPlaceOf};
-ghost use Rattle.shr_deferred.specs.Seat.{IsDeferredSeat};
 ghost use Rattle.shr_pass.specs.Answers.{IsCountable, FreesAtMost};
 
 use shr_base::places::Place;
@@ -191,16 +190,9 @@ const BROKEN: [Broken; 6] = [
 ];
 
 // One pass of a fresh fake. What it freed is what its scans noted.
-fn pass_of<R: Abort>(
-    rt: &R,
-    alloc: Global,
-    deferred: &Deferred,
-    seat: &mut DeferredSeat,
-    row: &Row,
-) -> PassRecord
-    requires place { IsPlaceOf deferred.now.sizes (record { id = 0; node = 0; group = 0 }) }
-    requires table { IsDeferredSeat deferred.now seat.old }
-    ensures table { IsDeferredSeat deferred.now seat.new }
+fn pass_of<R: Abort>(rt: &R, alloc: Global, seat: &mut DeferredSeat<'_>, row: &Row) -> PassRecord
+    requires place { IsPlaceOf seat.old.deferred.sizes (record { id = 0; node = 0; group = 0 }) }
+    ensures table { seat.new.deferred ≡ seat.old.deferred }
 {
     let (len, _nr, priority, seeks, batch) = row.of;
     assert!(rt; 1 <= len && len <= 1_048_576 && priority <= 12 && batch <= 20_000);
@@ -222,7 +214,7 @@ fn pass_of<R: Abort>(
         seeks,
         batch,
     };
-    match shrink_once(deferred, seat, &mut fake, &mut notes, HERE, pressure) {
+    match shrink_once(seat, &mut fake, &mut notes, HERE, pressure) {
         PassAnswer::Ran { pass } => pass,
         _ => panic!(rt; "no pass"),
     }
@@ -244,14 +236,15 @@ fn whole(of: Given, asks: u32, scanned: u64, next: u64) -> Row {
 // Makes the pass of a row over a new table, and sees that the row tells of it and of the deferred
 // word.
 fn passes<R: Abort>(rt: &R, alloc: Global, row: Row) -> Result<(), Fail> {
-    let (deferred, mut seat) = Deferred::new(alloc, ONE)?;
-    deferred.give(&mut seat, HERE, row.of.1);
-    let pass = pass_of(rt, alloc, &deferred, &mut seat, &row);
+    let (deferred, first) = Deferred::new(alloc, ONE)?;
+    let mut seat = first.at(&deferred);
+    seat.give(HERE, row.of.1);
+    let pass = pass_of(rt, alloc, &mut seat, &row);
     assert_eq!(rt; (pass.len, pass.version, pass.nr), (row.of.0, 7, row.of.1));
     assert_eq!(rt; (pass.asks, pass.closed), row.asks);
     assert_eq!(rt; (pass.scanned, pass.freed), row.scanned);
     assert_eq!(rt; (pass.next, pass.ending), (row.next, row.ending));
-    assert_eq!(rt; deferred.take(&mut seat, HERE), row.next);
+    assert_eq!(rt; seat.take(HERE), row.next);
     Ok(())
 }
 
@@ -289,16 +282,17 @@ fn passes_with_another_scan(rt: HostRuntime) -> Result<(), Fail> {
 
 #[test]
 fn what_a_stop_defers_is_taken_over(rt: HostRuntime) -> Result<(), Fail> {
-    let (deferred, mut seat) = Deferred::new(rt.alloc(), ONE)?;
+    let (deferred, first) = Deferred::new(rt.alloc(), ONE)?;
+    let mut seat = first.at(&deferred);
     let mut row = whole((1000, 0, 0, 2, 0), 15, 1920, 2000);
     row.good = 0;
-    let first = pass_of(&rt, rt.alloc(), &deferred, &mut seat, &row);
+    let first = pass_of(&rt, rt.alloc(), &mut seat, &row);
     assert_eq!(rt;
         (first.asks, first.next, first.ending),
         (0, 2000, Ending::Stop)
     );
     row.good = u64::MAX;
-    let second = pass_of(&rt, rt.alloc(), &deferred, &mut seat, &row);
+    let second = pass_of(&rt, rt.alloc(), &mut seat, &row);
     assert_eq!(rt; (second.nr, second.asks, second.scanned), (2000, 15, 1920));
     assert_eq!(rt; (second.next, second.ending), (2000, Through));
     Ok(())

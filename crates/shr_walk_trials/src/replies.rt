@@ -4,7 +4,7 @@ use crate::commands::{Command, Heard, ask, heard};
 use crate::desk::charges::wear;
 use crate::desk::left::place_of;
 use crate::desk::lists::{drop_key, fill};
-use crate::desk::opening::{Desk, close, open, seats_of, worker_of};
+use crate::desk::opening::{open, worker_at};
 use crate::desk::walks::offline;
 use crate::desk::words::{count, defer};
 use shr_base::replies::Spent;
@@ -38,20 +38,10 @@ const WITHOUT_CHARGES: [Row; 4] = [
 
 // The first command that a worker whose charges are used up is not answered as it must be.
 fn unlike_when_worn<R: Wait>(rt: &R, alloc: Global) -> Result<Option<usize>, Fail> {
-    let Desk {
-        shared,
-        first,
-        seats,
-    } = open(rt, alloc, ONE)?;
-    let mut worker = worker_of(rt, &shared, seats);
+    let (shared, first) = open(alloc, ONE)?;
+    let mut worker = worker_at(rt, &shared, first)?;
     wear(&mut worker);
     let unlike = first_unlike(&mut worker, 1, &WITHOUT_CHARGES);
-    let seats = seats_of(worker);
-    close(Desk {
-        shared,
-        first,
-        seats,
-    });
     Ok(unlike)
 }
 
@@ -107,19 +97,9 @@ fn going_and_gone<R: Wait>(worker: &mut Worker<'_, R>) -> Gone {
 
 // The same of the two groups of a family.
 fn gone<R: Wait>(rt: &R, alloc: Global) -> Result<Gone, Fail> {
-    let Desk {
-        shared,
-        first,
-        seats,
-    } = open(rt, alloc, FAMILY)?;
-    let mut worker = worker_of(rt, &shared, seats);
+    let (shared, first) = open(alloc, FAMILY)?;
+    let mut worker = worker_at(rt, &shared, first)?;
     let gone = going_and_gone(&mut worker);
-    let seats = seats_of(worker);
-    close(Desk {
-        shared,
-        first,
-        seats,
-    });
     Ok(gone)
 }
 

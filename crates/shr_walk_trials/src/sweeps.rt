@@ -1,7 +1,7 @@
 //! What helpers of a sweep come to, one after another.
 
 use crate::commands::{Command, ask};
-use crate::desk::opening::{Desk, close, open, seats_of, worker_of};
+use crate::desk::opening::{open, worker_at};
 use shr_pool::jobs::Jobs;
 use shr_sweep::answers::SweepAnswer;
 use shr_sweep::helping::help;
@@ -38,22 +38,12 @@ fn helped<R: Wait>(worker: &mut Worker<'_, R>) -> Option<Helped> {
 
 // The same if a group has an object and the one below it two.
 fn helped_family<R: Wait>(rt: &R, alloc: Global) -> Result<Option<Helped>, Fail> {
-    let Desk {
-        shared,
-        first,
-        seats,
-    } = open(rt, alloc, FAMILY)?;
-    let mut worker = worker_of(rt, &shared, seats);
+    let (shared, first) = open(alloc, FAMILY)?;
+    let mut worker = worker_at(rt, &shared, first)?;
     ask(&mut worker, Command::Put, 1, b"k1");
     ask(&mut worker, Command::Put, 2, b"k2");
     ask(&mut worker, Command::Put, 2, b"k3");
     let helped = helped(&mut worker);
-    let seats = seats_of(worker);
-    close(Desk {
-        shared,
-        first,
-        seats,
-    });
     Ok(helped)
 }
 

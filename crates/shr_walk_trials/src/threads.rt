@@ -2,20 +2,19 @@
 
 ghost use Rattle.std.specs.Prelude.{IfOk};
 ghost use Rattle.shr_walk.specs.Acting.{IsFit};
-ghost use Rattle.shr_walk.specs.Sharing.{IsShared};
-ghost use Rattle.shr_walk_trials.specs.Desk.{AreFirstSeats, IsHolder};
+ghost use Rattle.shr_walk_trials.specs.Desk.{AreNew, IsHolder};
 
 use crate::desk::holding::{hold, rest};
 use crate::desk::left::{outcome, place_of};
 use crate::desk::lists::fill;
-use crate::desk::opening::{Desk, another, open, seats_of, worker_of};
+use crate::desk::opening::{another, open, register_all, seats_of, worker_of};
 use crate::desk::registrations::unregister;
 use crate::desk::walks::walk;
 use crate::desk::words::phase;
 use shr_base::places::Place;
 use shr_base::walks::{GoneThen, Outcome, WalkAnswer};
 use shr_registry::answers::UnregisterAnswer;
-use shr_walk::seats::{Seats, Shared};
+use shr_walk::seats::{FirstSeats, Seats, Shared};
 use shr_walk::worker::Worker;
 use std::sync::Wait;
 use std::test::Fail;
@@ -42,12 +41,12 @@ fn wait_for_dying<R: Wait>(worker: &mut Worker<'_, R>) {
 
 // Puts an object on the root's list of id 0, and walks the root while id 1 is dying, which waits
 // until the reference to it is given back.
-fn walk_past<R: Wait>(
-    rt: &R,
-    shared: &Shared,
-    walker: Seats,
-    mut holder: Seats,
-) -> (Seats, Option<WalkAnswer>)
+fn walk_past<'a, R: Wait>(
+    rt: &'a R,
+    shared: &'a Shared,
+    walker: Seats<'a>,
+    mut holder: Seats<'a>,
+) -> (Seats<'a>, Option<WalkAnswer>)
     requires walker { IsFit shared.now walker }
     requires holder { IsHolder shared.now HELD holder }
 {
@@ -60,14 +59,14 @@ fn walk_past<R: Wait>(
 }
 
 // Unregisters the second cache, by the seats of a worker of its own.
-fn end<R: Wait>(rt: &R, shared: &Shared, ender: Seats) -> Option<UnregisterAnswer>
+fn end<'a, R: Wait>(rt: &'a R, shared: &'a Shared, ender: Seats<'a>) -> Option<UnregisterAnswer>
     requires { IsFit shared.now ender }
 {
     unregister(&mut worker_of(rt, shared, ender), 1)
 }
 
 // The lookup of the first attempt if its pass ran, and the outcomes of the next two.
-fn outcomes(walker: &Seats) -> (Option<u32>, Option<Outcome>, Option<Outcome>) {
+fn outcomes(walker: &Seats<'_>) -> (Option<u32>, Option<Outcome>, Option<Outcome>) {
     let number = match outcome(walker, 0, 0) {
         Some(Outcome::Ran { number, pass: _ }) => Some(number),
         _ => None,
@@ -75,29 +74,32 @@ fn outcomes(walker: &Seats) -> (Option<u32>, Option<Outcome>, Option<Outcome>) {
     (number, outcome(walker, 0, 1), outcome(walker, 0, 2))
 }
 
-// The seats of two workers more.
-fn two_more(shared: &Shared, first: &mut Seats) -> Result<(Seats, Seats), Fail>
-    requires shared { IsShared shared.now }
-    requires first { AreFirstSeats shared.now first.old 1 }
-    ensures seats { IfOk result (λ t. IsFit shared.now t.0 × IsFit shared.now t.1) }
+// The seats of three workers, of which the first registered each cache that is on.
+fn three<'a, R: Wait>(
+    rt: &'a R,
+    shared: &'a Shared,
+    first: FirstSeats,
+) -> Result<(Seats<'a>, Seats<'a>, Seats<'a>), Fail>
+    requires { AreNew shared.now first }
+    ensures { IfOk result (λ t. IsFit shared.entry.now t.0 × IsFit shared.entry.now t.1
+        × IsFit shared.entry.now t.2) }
 {
-    let holder = another(shared, first, 1)?;
-    let ender = another(shared, first, 2)?;
-    Ok((holder, ender))
+    let mut first = first.at(shared);
+    let holder = another(shared, &mut first, 0)?;
+    let ender = another(shared, &mut first, 1)?;
+    let mut worker = worker_of(rt, shared, first);
+    register_all(&mut worker)?;
+    Ok((seats_of(worker), holder, ender))
 }
 
 #[test]
 fn a_root_walk_passes_a_dying_id(rt: HostRuntime) -> Result<(), Fail> {
-    let Desk {
-        shared: table,
-        mut first,
-        seats: walker,
-    } = open(&rt, rt.alloc(), THREE_IDS)?;
-    let (mut holder, ender) = two_more(&table, &mut first)?;
-    let Some(0) = hold(&table, &mut holder, HELD) else {
+    let (table, first) = open(rt.alloc(), THREE_IDS)?;
+    let shared = &table;
+    let (walker, mut holder, ender) = three(&rt, shared, first)?;
+    let Some(0) = hold(shared, &mut holder, HELD) else {
         panic!(rt; "the id is not held");
     };
-    let shared = &table;
     let waiting = &rt;
     let ((walker, answer), freed) = thread::join(
         &rt,

@@ -3,7 +3,7 @@
 use crate::desk::holding::{hold, rest};
 use crate::desk::left::place_of;
 use crate::desk::lists::fill;
-use crate::desk::opening::{Desk, close, open, seats_of, worker_of};
+use crate::desk::opening::{open, worker_at};
 use crate::desk::words::{is_set, take_deferred};
 use crate::fakes::Fake;
 use shr_base::walks::{Ending, Outcome, PassRecord};
@@ -38,7 +38,7 @@ fn visit<R: Wait>(
         last: None,
     };
     let seats = &mut worker.seats;
-    let outcome = visiting::visit(shared, seats, &mut fake, place, number, priority, 2, 0);
+    let outcome = visiting::visit(seats, &mut fake, place, number, priority, 2, 0);
     rest(shared, seats, place);
     Some(outcome)
 }
@@ -50,20 +50,10 @@ fn visited_late<R: Wait>(
     alloc: Global,
     floor: u32,
 ) -> Result<(Option<Outcome>, Option<bool>), Fail> {
-    let Desk {
-        shared,
-        first,
-        seats,
-    } = open(rt, alloc, PLAIN)?;
-    let mut worker = worker_of(rt, &shared, seats);
+    let (shared, first) = open(alloc, PLAIN)?;
+    let mut worker = worker_at(rt, &shared, first)?;
     let outcome = visit(&mut worker, floor, true, 12);
     let bit = is_set(&mut worker, place_of(1));
-    let seats = seats_of(worker);
-    close(Desk {
-        shared,
-        first,
-        seats,
-    });
     Ok((outcome, bit))
 }
 
@@ -107,21 +97,11 @@ fn visited_without_memory<R: Wait>(
     rt: &R,
     alloc: Global,
 ) -> Result<(Option<Outcome>, Option<u64>), Fail> {
-    let Desk {
-        shared,
-        first,
-        seats,
-    } = open(rt, alloc, PLAIN)?;
-    let mut worker = worker_of(rt, &shared, seats);
+    let (shared, first) = open(alloc, PLAIN)?;
+    let mut worker = worker_at(rt, &shared, first)?;
     fill(&mut worker, place_of(1), 1);
     let outcome = visit(&mut worker, 0, false, 0);
     let deferred = take_deferred(&mut worker, place_of(1));
-    let seats = seats_of(worker);
-    close(Desk {
-        shared,
-        first,
-        seats,
-    });
     Ok((outcome, deferred))
 }
 

@@ -3,7 +3,7 @@
 use crate::desk::charges::wear;
 use crate::desk::left::{outcome, place_of};
 use crate::desk::lists::fill;
-use crate::desk::opening::{Desk, close, open, open_short, seats_of, worker_of};
+use crate::desk::opening::{open, open_short, worker_at};
 use crate::desk::walks::walk;
 use crate::desk::words::count;
 use shr_base::replies::Spent;
@@ -43,21 +43,11 @@ fn walked<R: Wait>(worker: &mut Worker<'_, R>) -> Walked {
 
 // A walk of three objects by a seat whose charges are used up.
 fn walked_without_charges<R: Wait>(rt: &R, alloc: Global) -> Result<Walked, Fail> {
-    let Desk {
-        shared,
-        first,
-        seats,
-    } = open(rt, alloc, PLAIN)?;
-    let mut worker = worker_of(rt, &shared, seats);
+    let (shared, first) = open(alloc, PLAIN)?;
+    let mut worker = worker_at(rt, &shared, first)?;
     fill(&mut worker, place_of(1), 3);
     wear(&mut worker);
     let walked = walked(&mut worker);
-    let seats = seats_of(worker);
-    close(Desk {
-        shared,
-        first,
-        seats,
-    });
     Ok(walked)
 }
 
@@ -79,20 +69,10 @@ fn a_seat_without_charges_walks_and_frees_nothing(rt: HostRuntime) -> Result<(),
 
 // A walk of two objects of a list whose journal takes two entries.
 fn walked_without_entries<R: Wait>(rt: &R, alloc: Global) -> Result<Walked, Fail> {
-    let Desk {
-        shared,
-        first,
-        seats,
-    } = open_short(rt, alloc, PLAIN, 2)?;
-    let mut worker = worker_of(rt, &shared, seats);
+    let (shared, first) = open_short(alloc, PLAIN, 2)?;
+    let mut worker = worker_at(rt, &shared, first)?;
     fill(&mut worker, place_of(1), 2);
     let walked = walked(&mut worker);
-    let seats = seats_of(worker);
-    close(Desk {
-        shared,
-        first,
-        seats,
-    });
     Ok(walked)
 }
 

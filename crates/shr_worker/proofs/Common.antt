@@ -14,7 +14,7 @@ pub use Rattle.shr_base.specs.declared.walks.PlainWalk.{PlainWalk}
 pub use Rattle.shr_core.specs.Seats.{shape_of, view_of}
 pub use Rattle.shr_core.specs.declared.view.View.{View}
 pub use Rattle.shr_plain.specs.Opening.{ArePoolsOf, pool_sizes, setting_by, settings_of}
-pub use Rattle.shr_plain.specs.Seat.{IsPlainSeat, PlainState, plain_state_of}
+pub use Rattle.shr_plain.specs.Seat.{PlainSeated, PlainState, plain_state_of}
 pub use Rattle.shr_plain.specs.Settings.{IsPoolOf, home_place, room_of}
 pub use Rattle.shr_plain.specs.declared.settings.Setting.{Setting}
 pub use Rattle.shr_script.specs.Bounds.{IfServed, IsCommandWithin, IsIsolationWithin, IsPoolCommandWithin}

@@ -6,8 +6,7 @@ use Rattle.shr_base.specs.declared.scripts.Command.{Command}
 use Rattle.shr_base.specs.declared.scripts.Script.{Script}
 use Rattle.shr_base.specs.declared.scripts.WorkerScript.{WorkerScript}
 use Rattle.shr_base.specs.declared.walks.Isolation.{Isolation}
-use Rattle.shr_plain.specs.declared.table.PlainSeat.{PlainSeat}
-use Rattle.shr_plain.specs.Seat.{PlainState}
+use Rattle.shr_plain.specs.Seat.{PlainState, PlainSeated}
 use Rattle.shr_plain.specs.Seat as plain
 use Rattle.shr_walk.specs.Acting.{Acting}
 use Rattle.shr_walk.specs.declared.seats.Seats.{Seats}
@@ -38,11 +37,11 @@ pub record CrewState : Type 0 where
   pub isolations : List Isolation
 
 -- the state of a worker by its seats and its isolations
-abbrev pub crew_of : Seats → PlainSeat → List Isolation → CrewState
+abbrev pub crew_of : Seats → PlainSeated → List Isolation → CrewState
 crew_of s p is = record { seats = state_of s; plain = plain.plain_state_of p; isolations = is }
 
 -- the same of a worker that is one value
-abbrev pub crew_at : Acting → PlainSeat → List Isolation → CrewState
+abbrev pub crew_at : Acting → PlainSeated → List Isolation → CrewState
 crew_at w p is = record { seats = w.state; plain = plain.plain_state_of p; isolations = is }
 
 -- what a command did between two states of its worker, by its answer: at the tables of the caches,

@@ -1,11 +1,11 @@
 //! One command of a worker.
 
-ghost use Rattle.std.specs.Prelude.{◌+◌, ◌<◌, ◌≤◌, ◌^◌, IfOk, length};
+ghost use Rattle.std.specs.Prelude.{◌≡◌, ◌+◌, ◌<◌, ◌≤◌, ◌^◌, IfOk, length};
 ghost use Rattle.shr_base.specs.declared.scripts.Command.TheVariants as commands;
 ghost use Rattle.shr_core.specs.Seats.{shape_of};
 ghost use Rattle.shr_opening.specs.Opening.{IsTargetOf};
 ghost use Rattle.shr_plain.specs.Opening.{ArePoolsOf};
-ghost use Rattle.shr_plain.specs.Seat.{IsPlainSeat, plain_state_of};
+ghost use Rattle.shr_plain.specs.Seat.{plain_state_of};
 ghost use Rattle.shr_script.specs.Bounds.{IsCommandWithin};
 ghost use Rattle.shr_script.specs.Content.{content_of};
 ghost use Rattle.shr_walk.specs.Acting.{IsSame};
@@ -29,7 +29,7 @@ use shr_cache::dels::del;
 use shr_cache::gets::get;
 use shr_cache::pins::set_pin;
 use shr_drop::isolating::isolate;
-use shr_plain::{PlainSeat, Pools};
+use shr_plain::PlainSeat;
 use shr_walk::worker::Worker;
 use std::sync::Wait;
 
@@ -53,17 +53,15 @@ fn run_on<R: Wait>(worker: &mut Worker<'_, R>, at: Target, key: &Text, act: Act)
 /// for the record of a walk of the pools; every other want of memory is an answer.
 pub fn run_command<R: Wait>(
     worker: &mut Worker<'_, R>,
-    pools: &Pools,
-    plain: &mut PlainSeat,
+    plain: &mut PlainSeat<'_>,
     isolations: &mut Log<Isolation>,
     command: &Command,
 ) -> Result<Answered, Memory>
-    requires pools { ArePoolsOf worker.old.shared.script pools.now }
+    requires pools { ArePoolsOf worker.old.shared.script plain.old.pools }
     requires within { IsCommandWithin (content_of worker.old.shared.script) command.now }
-    requires plain_seat { IsPlainSeat pools.now plain.old }
-    requires few { length plain.old.walks.items < 2 ^ 32 }
-    ensures plain_seat { IsPlainSeat pools.now plain.new }
-    ensures few { length plain.new.walks.items ≤ length plain.old.walks.items + 1 }
+    requires few { length plain.old.state.walks < 2 ^ 32 }
+    ensures pools { plain.new.pools ≡ plain.old.pools }
+    ensures few { length plain.new.state.walks ≤ length plain.old.state.walks + 1 }
     ensures gives { IfOk result (λ a. CommandGives worker.old.shared worker.old.by command.now a
         worker.old.state worker.new.state) }
     ensures plain { IfOk result (λ a. PlainGives worker.old.shared.script worker.old.by command.now
@@ -85,7 +83,7 @@ pub fn run_command<R: Wait>(
         } => {
             let answered = shrink(worker, *group, *node, *priority, *nofs);
             let due = is_due_after(&shared.script, *group, &answered.reply);
-            walk_if(worker, pools, plain, *node, *priority, due)?;
+            walk_if(worker, plain, *node, *priority, due)?;
             Ok(answered)
         }
         Command::Balance {
@@ -95,7 +93,7 @@ pub fn run_command<R: Wait>(
         } => {
             let answered = balance(worker, *node, *priority, *nofs);
             let due = is_due(&shared.script, &answered.reply);
-            walk_if(worker, pools, plain, *node, *priority, due)?;
+            walk_if(worker, plain, *node, *priority, due)?;
             Ok(answered)
         }
         Command::Offline { group } => Ok(offline(worker, *group)),
@@ -103,9 +101,9 @@ pub fn run_command<R: Wait>(
         Command::Register { decl } => Ok(register(worker, *decl)),
         Command::Unregister { decl } => unregister(worker, *decl),
         Command::Release { node, pool, units } => {
-            Ok(release(worker, pools, plain, *node, *pool, *units))
+            Ok(release(worker, plain, *node, *pool, *units))
         }
-        Command::Grab { node, pool } => Ok(grab(worker, pools, plain, *node, *pool)),
+        Command::Grab { node, pool } => Ok(grab(worker, plain, *node, *pool)),
         Command::Isolate { at, budget } => Ok(isolate(worker, isolations, *at, *budget)),
     }
 }

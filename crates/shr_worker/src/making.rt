@@ -23,9 +23,6 @@ pub fn mkgroup<R: Wait>(worker: &mut Worker<'_, R>, group: u16) -> Answered
     ensures makes { MakesGroup worker.old.shared group result worker.old.state worker.new.state }
     ensures same { IsSame worker.old worker.new }
 {
-    let answer = worker
-        .shared
-        .charge
-        .make_group(worker.rt, &mut worker.seats.cache.charge, group);
+    let answer = worker.seats.cache.charge.make_group(worker.rt, group);
     unfound(make_reply(answer))
 }

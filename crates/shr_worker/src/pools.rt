@@ -2,42 +2,53 @@
 
 ghost use Rattle.std.specs.Prelude.{◌≡◌, ◌+◌, ◌<◌, ◌≤◌, ◌^◌, ◌==◌, ◌&&◌, OnErr, OnOk, length};
 ghost use Rattle.shr_plain.specs.Opening.{ArePoolsOf};
-ghost use Rattle.shr_plain.specs.Seat.{IsPlainSeat, plain_state_of};
+ghost use Rattle.shr_plain.specs.Seat.{ActsPlain, plain_state_of};
 ghost use Rattle.shr_script.specs.Bounds.{IsCommandWithin};
 ghost use Rattle.shr_script.specs.Content.{content_of};
 ghost use Rattle.shr_base.specs.declared.scripts.Command.TheVariants as commands;
-ghost use Rattle.shr_worker.specs.Plain.{Grabs, Releases, WalksIf, is_due, is_walked};
+ghost use Rattle.shr_worker.specs.Plain.{Grabs, Releases, WalksIf, is_due, is_walked, worker_units_place};
 
 use crate::replies::{grab_reply, release_reply};
 use shr_base::memory::Memory;
+use shr_base::places::Place;
 use shr_base::replies::{Answered, Reply};
 use shr_base::scripts::Script;
 use shr_opening::replies::unfound;
-use shr_plain::{PlainSeat, Pools};
+use shr_plain::PlainSeat;
 use shr_walk::worker::Worker;
 use std::sync::Wait;
+
+// The place where the units of a pool are for a node: at node 0 for one that is flat.
+fn units_place(script: &Script, pool: u8, node: u8) -> Place
+    requires { pool < length script.now.pools.items }
+    ensures { result ≡ worker_units_place script.now pool node }
+{
+    let declared = &script.pools.as_slice()[pool as usize];
+    Place {
+        id: pool as u16,
+        node: if declared.flat { 0 } else { node },
+        group: 0,
+    }
+}
 
 /// Releases units to a pool.
 ///
 /// It waits for the pool's room. `Full`, `Worn` and `Memory` leave the pool as it was. Our own.
 pub fn release<R: Wait>(
     worker: &Worker<'_, R>,
-    pools: &Pools,
-    plain: &mut PlainSeat,
+    plain: &mut PlainSeat<'_>,
     node: u8,
     pool: u8,
     units: u32,
 ) -> Answered
-    requires pools { ArePoolsOf worker.now.shared.script pools.now }
+    requires pools { ArePoolsOf worker.now.shared.script plain.old.pools }
     requires within { IsCommandWithin (content_of worker.now.shared.script)
         (commands.Release node pool units) }
-    requires seat { IsPlainSeat pools.now plain.old }
-    ensures seat { IsPlainSeat pools.now plain.new }
-    ensures releases { Releases worker.now.shared.script worker.now.by node pool units result
-        (plain_state_of plain.old) (plain_state_of plain.new) }
+    ensures releases { ActsPlain (Releases worker.now.shared.script worker.now.by node pool units
+        result) plain.old plain.new }
 {
-    let place = pools.place(pool, node);
-    let answer = pools.release(worker.rt, plain, worker.by, pool, node, units);
+    let place = units_place(&worker.shared.script, pool, node);
+    let answer = plain.release(worker.rt, worker.by, pool, node, units);
     unfound(release_reply(place, answer))
 }
 
@@ -46,21 +57,18 @@ pub fn release<R: Wait>(
 /// It waits for the pool's room. `Worn` and `Memory` leave the pool as it was. Our own.
 pub fn grab<R: Wait>(
     worker: &Worker<'_, R>,
-    pools: &Pools,
-    plain: &mut PlainSeat,
+    plain: &mut PlainSeat<'_>,
     node: u8,
     pool: u8,
 ) -> Answered
-    requires pools { ArePoolsOf worker.now.shared.script pools.now }
+    requires pools { ArePoolsOf worker.now.shared.script plain.old.pools }
     requires within { IsCommandWithin (content_of worker.now.shared.script)
         (commands.Grab node pool) }
-    requires seat { IsPlainSeat pools.now plain.old }
-    ensures seat { IsPlainSeat pools.now plain.new }
-    ensures grabs { Grabs worker.now.shared.script worker.now.by node pool result
-        (plain_state_of plain.old) (plain_state_of plain.new) }
+    ensures grabs { ActsPlain (Grabs worker.now.shared.script worker.now.by node pool result)
+        plain.old plain.new }
 {
-    let place = pools.place(pool, node);
-    let answer = pools.grab(worker.rt, plain, worker.by, pool, node);
+    let place = units_place(&worker.shared.script, pool, node);
+    let answer = plain.grab(worker.rt, worker.by, pool, node);
     unfound(grab_reply(place, answer))
 }
 
@@ -94,19 +102,17 @@ pub(crate) fn is_due_after(script: &Script, group: u16, reply: &Reply) -> bool
 /// `SHRINKER_MEMCG_AWARE`.
 pub(crate) fn walk_if<R: Wait>(
     worker: &Worker<'_, R>,
-    pools: &Pools,
-    plain: &mut PlainSeat,
+    plain: &mut PlainSeat<'_>,
     node: u8,
     priority: u8,
     due: bool,
 ) -> Result<(), Memory>
-    requires pools { ArePoolsOf worker.now.shared.script pools.now }
+    requires pools { ArePoolsOf worker.now.shared.script plain.old.pools }
     requires node { node < worker.now.shared.script.nodes }
     requires priority { priority ≤ 12 }
-    requires few { length plain.old.walks.items < 2 ^ 32 }
-    requires seat { IsPlainSeat pools.now plain.old }
-    ensures seat { IsPlainSeat pools.now plain.new }
-    ensures few { length plain.new.walks.items ≤ length plain.old.walks.items + 1 }
+    requires few { length plain.old.state.walks < 2 ^ 32 }
+    ensures pools { plain.new.pools ≡ plain.old.pools }
+    ensures few { length plain.new.state.walks ≤ length plain.old.state.walks + 1 }
     ensures kept { OnErr result (plain_state_of plain.new ≡ plain_state_of plain.old) }
     ensures walks { OnOk result (WalksIf due worker.now.shared.script worker.now.by node priority
         (plain_state_of plain.old) (plain_state_of plain.new)) }
@@ -114,7 +120,7 @@ pub(crate) fn walk_if<R: Wait>(
     if !due {
         return Ok(());
     }
-    plain.walks.reserve(1)?;
-    pools.walk_plain(worker.rt, plain, worker.by, node, priority);
+    plain.reserve_walk()?;
+    plain.walk_plain(worker.rt, worker.by, node, priority);
     Ok(())
 }

@@ -33,8 +33,7 @@ pub fn register<R: Wait>(worker: &mut Worker<'_, R>, decl: u8) -> Answered
         worker.new.state }
     ensures same { IsSame worker.old worker.new }
 {
-    let core = &worker.shared.core;
-    let answer = registering::register(worker.rt, core, &mut worker.seats.cache.core, decl);
+    let answer = registering::register(worker.rt, &mut worker.seats.cache.core, decl);
     unfound(register_reply(answer))
 }
 
@@ -54,7 +53,6 @@ fn uncharge_drained<R: Wait>(
 {
     let cache = &mut worker.seats.cache;
     uncharge_each(
-        &worker.shared.charge,
         &mut cache.charge,
         &mut cache.uses,
         worker.by,
@@ -76,12 +74,11 @@ pub fn unregister<R: Wait>(worker: &mut Worker<'_, R>, decl: u8) -> Result<Answe
         ⊎ Unregisters worker.old.shared worker.old.by decl a worker.old.state worker.new.state) }
     ensures same { IsSame worker.old worker.new }
 {
-    if let Some(spent) = worker.shared.charge.spent(&worker.seats.cache.charge) {
+    if let Some(spent) = worker.seats.cache.charge.spent() {
         return Ok(unfound(Reply::Worn { spent }));
     }
-    let core = &worker.shared.core;
     let seat = &mut worker.seats.cache.core;
-    match unregistering::unregister(worker.rt, core, seat, decl, worker.by) {
+    match unregistering::unregister(worker.rt, seat, decl, worker.by) {
         UnregisterAnswer::NoCache { entry } => Ok(unfound(Reply::NoCache { entry })),
         UnregisterAnswer::Memory => Ok(unfound(Reply::Memory)),
         UnregisterAnswer::Freed {

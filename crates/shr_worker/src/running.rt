@@ -2,10 +2,8 @@
 
 ghost use Rattle.std.specs.Prelude.{◌≡◌, ◌+◌, ◌<◌, ◌≤◌, ◌^◌, [], IfOk, IsTrue, OnOk, length, slice_get, Some};
 ghost use Rattle.shr_plain.specs.Opening.{ArePoolsOf};
-ghost use Rattle.shr_plain.specs.Seat.{IsPlainSeat};
 ghost use Rattle.shr_script.specs.Bounds.{IsCommandWithin};
 ghost use Rattle.shr_script.specs.Content.{content_of};
-ghost use Rattle.shr_walk.specs.Sharing.{IsShared};
 ghost use Rattle.shr_walk.specs.State.{IsRested};
 ghost use Rattle.shr_worker.specs.Chain.{DeedGives, IsWorkOf, worker_commands, crew_at, crew_of, command_serial};
 ghost use Rattle.shr_worker.specs.Tasks.{IsTask};
@@ -20,7 +18,7 @@ use shr_base::replies::Answered;
 use shr_base::scripts::Command;
 use shr_base::walks::Isolation;
 use shr_outside::outside::Gate;
-use shr_plain::{PlainSeat, Pools};
+use shr_plain::PlainSeat;
 use shr_walk::seats::Shared;
 use shr_walk::worker::Worker;
 use std::sync::Wait;
@@ -36,20 +34,18 @@ fn expect_notes(uses: &mut Log<UseStep>, commands: usize)
 // Runs the worker's command of this number.
 fn run_next<R: Wait>(
     worker: &mut Worker<'_, R>,
-    pools: &Pools,
-    plain: &mut PlainSeat,
+    plain: &mut PlainSeat<'_>,
     isolations: &mut Log<Isolation>,
     number: u32,
     command: &Command,
 ) -> Result<Answered, Memory>
-    requires pools { ArePoolsOf worker.old.shared.script pools.now }
+    requires pools { ArePoolsOf worker.old.shared.script plain.old.pools }
     requires within { IsCommandWithin (content_of worker.old.shared.script) command.now }
-    requires plain_seat { IsPlainSeat pools.now plain.old }
-    requires few { length plain.old.walks.items < 2 ^ 32 }
+    requires few { length plain.old.state.walks < 2 ^ 32 }
     ensures shared { worker.new.shared ≡ worker.old.shared }
     ensures worker { worker.new.by.worker ≡ worker.old.by.worker }
-    ensures plain_seat { IsPlainSeat pools.now plain.new }
-    ensures few { length plain.new.walks.items ≤ length plain.old.walks.items + 1 }
+    ensures pools { plain.new.pools ≡ plain.old.pools }
+    ensures few { length plain.new.state.walks ≤ length plain.old.state.walks + 1 }
     ensures deed { IfOk result (λ a. DeedGives worker.old.shared
         (command_serial worker.old.by.worker number) command.now a
         (crew_at worker.old plain.old isolations.old.items)
@@ -59,7 +55,7 @@ fn run_next<R: Wait>(
         worker: worker.by.worker,
         command: number,
     };
-    let answered = run_command(worker, pools, plain, isolations, command)?;
+    let answered = run_command(worker, plain, isolations, command)?;
     // Its seats are at rest again.
     let _seats = &worker.seats;
     Ok(answered)
@@ -68,19 +64,17 @@ fn run_next<R: Wait>(
 // Runs the commands of a worker in order, as long as there is memory for the answers and the notes.
 fn run_commands<R: Wait, G: Gate>(
     worker: &mut Worker<'_, R>,
-    pools: &Pools,
-    plain: &mut PlainSeat,
+    plain: &mut PlainSeat<'_>,
     answers: &mut Log<Answered>,
     isolations: &mut Log<Isolation>,
     gate: &G,
 ) -> Result<(), Memory>
     requires number { worker.old.by.worker < length worker.old.shared.script.workers.items }
-    requires pools { ArePoolsOf worker.old.shared.script pools.now }
-    requires plain_seat { IsPlainSeat pools.now plain.old }
-    requires none { (plain.old.walks.items ≡ []) × (answers.old.items ≡ [])
+    requires pools { ArePoolsOf worker.old.shared.script plain.old.pools }
+    requires none { (plain.old.state.walks ≡ []) × (answers.old.items ≡ [])
         × (isolations.old.items ≡ []) }
     ensures shared { worker.new.shared ≡ worker.old.shared }
-    ensures plain { IsPlainSeat pools.now plain.new }
+    ensures pools { plain.new.pools ≡ plain.old.pools }
     ensures all { OnOk result (length answers.new.items
         ≡ length (worker_commands worker.old.shared.script worker.old.by.worker)) }
     ensures work { OnOk result (IsWorkOf worker.old.shared worker.old.by.worker answers.new.items
@@ -96,7 +90,7 @@ fn run_commands<R: Wait, G: Gate>(
     for (k, command) in mine.commands.as_slice().iter().enumerate() {
         answers.reserve(1)?;
         gate.before(number, k as u32);
-        let answered = run_next(worker, pools, plain, isolations, k as u32, command)?;
+        let answered = run_next(worker, plain, isolations, k as u32, command)?;
         answers.push(answered);
     }
     Ok(())
@@ -107,23 +101,20 @@ fn run_commands<R: Wait, G: Gate>(
 /// Want of memory for an answer, to note an uncharge of a cache that was unregistered, or for the
 /// record of a walk of the pools ends the run: then the result isn't whole, and what was done last
 /// may have no answer or lack its notes. It waits when its commands do. Our own.
-pub fn run_worker<R: Wait, G: Gate>(
-    rt: &R,
-    shared: &Shared,
-    pools: &Pools,
-    task: Task,
+pub fn run_worker<'a, R: Wait, G: Gate>(
+    rt: &'a R,
+    shared: &'a Shared,
+    task: Task<'a>,
     gate: &G,
-) -> WorkerResult
-    requires shared { IsShared shared.now }
-    requires pools { ArePoolsOf shared.now.script pools.now }
-    requires task { IsTask shared.now pools.now task }
-    ensures number { result.number ≡ task.number }
+) -> WorkerResult<'a>
+    requires task { IsTask shared.now task }
+    ensures number { result.number ≡ task.entry.number }
     ensures rested { IsRested shared.now result.seats }
-    ensures plain { IsPlainSeat pools.now result.plain }
+    ensures pools { result.plain.pools ≡ task.entry.plain.pools }
     ensures all { IsTrue result.whole → length result.answers.items
-        ≡ length (worker_commands shared.now.script task.number) }
-    ensures work { IsTrue result.whole → IsWorkOf shared.now task.number result.answers.items
-        (crew_of task.seats task.plain [])
+        ≡ length (worker_commands shared.now.script task.entry.number) }
+    ensures work { IsTrue result.whole → IsWorkOf shared.now task.entry.number result.answers.items
+        (crew_of task.entry.seats task.entry.plain [])
         (crew_of result.seats result.plain result.isolations.items) }
 {
     let Task {
@@ -143,15 +134,7 @@ pub fn run_worker<R: Wait, G: Gate>(
             command: 0,
         },
     };
-    let whole = run_commands(
-        &mut worker,
-        pools,
-        &mut plain,
-        &mut answers,
-        &mut isolations,
-        gate,
-    )
-    .is_ok();
+    let whole = run_commands(&mut worker, &mut plain, &mut answers, &mut isolations, gate).is_ok();
     WorkerResult {
         number,
         seats: worker.seats,

@@ -8,19 +8,19 @@ use shr_walk::seats::Seats;
 
 /// What a worker runs with: its number in the script, and its seats. Our own.
 #[derive(Drop)]
-pub struct Task {
+pub struct Task<'a> {
     pub number: u16,
-    pub seats: Seats,
+    pub seats: Seats<'a>,
     /// Its seat at the pools of units.
-    pub plain: PlainSeat,
+    pub plain: PlainSeat<'a>,
 }
 
 /// What a worker leaves: its seats, with what they noted, and its answers. Our own.
 #[derive(Drop)]
-pub struct WorkerResult {
+pub struct WorkerResult<'a> {
     pub number: u16,
-    pub seats: Seats,
-    pub plain: PlainSeat,
+    pub seats: Seats<'a>,
+    pub plain: PlainSeat<'a>,
     pub answers: Log<Answered>,
     pub isolations: Log<Isolation>,
     /// Each command was answered and each operation noted. It is false for want of memory alone.

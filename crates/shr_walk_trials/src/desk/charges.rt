@@ -15,9 +15,7 @@ fn charge_once<R: Wait>(worker: &mut Worker<'_, R>) -> bool {
     if uses.reserve(2 * shared.tree.depth(1) as usize).is_err() {
         return false;
     }
-    let _answer = shared
-        .charge
-        .charge(&mut worker.seats.cache.charge, &mut uses, BY, 1);
+    let _answer = worker.seats.cache.charge.charge(&mut uses, BY, 1);
     true
 }
 

@@ -18,7 +18,7 @@ pub fn is_place(shared: &Shared, place: Place) -> bool
 }
 
 /// Looks the id of a place up, and tells the number of the lookup where it is held now. Our own.
-pub fn hold(shared: &Shared, seats: &mut Seats, place: Place) -> Option<u32>
+pub fn hold(shared: &Shared, seats: &mut Seats<'_>, place: Place) -> Option<u32>
     requires { IsFit shared.now seats.old }
     ensures held { IfSome result (λ n. IsHolder shared.now place seats.new) }
     ensures free { result ≡ None → IsFit shared.now seats.new }
@@ -26,7 +26,7 @@ pub fn hold(shared: &Shared, seats: &mut Seats, place: Place) -> Option<u32>
     if !is_place(shared, place) {
         return None;
     }
-    match shared.core.lookup(&mut seats.cache.core, place.id) {
+    match seats.cache.core.lookup(place.id) {
         Lookup::Held { number, decl: _ } => Some(number),
         Lookup::Gone { number: _ } => None,
         Lookup::Worn { seen: _ } => None,
@@ -34,9 +34,9 @@ pub fn hold(shared: &Shared, seats: &mut Seats, place: Place) -> Option<u32>
 }
 
 /// Gives the reference to the held id back. Our own.
-pub fn rest(shared: &Shared, seats: &mut Seats, place: Place)
+pub fn rest(shared: &Shared, seats: &mut Seats<'_>, place: Place)
     requires { IsHolder shared.now place seats.old }
     ensures { IsFit shared.now seats.new }
 {
-    shared.core.put(&mut seats.cache.core);
+    seats.cache.core.put();
 }

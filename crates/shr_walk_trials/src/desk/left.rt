@@ -14,7 +14,7 @@ pub const fn place_of(group: u16) -> Place {
 }
 
 /// What a walk of a worker came to, by the number of the walk and that of its attempt. Our own.
-pub fn outcome(seats: &Seats, walk: usize, attempt: usize) -> Option<Outcome> {
+pub fn outcome(seats: &Seats<'_>, walk: usize, attempt: usize) -> Option<Outcome> {
     let attempts = seats.walks.get(walk)?.attempts();
     Some(attempts.get(attempt)?.outcome())
 }

@@ -28,7 +28,7 @@ pub fn add<R: Wait>(worker: &mut Worker<'_, R>, place: Place, key: &[u8]) -> Opt
     };
     hold(shared, &mut worker.seats, place)?;
     let seat = &mut worker.seats.cache.core;
-    let answer = tenants::add(worker.rt, &shared.core, seat, place.id, place.node, object);
+    let answer = tenants::add(worker.rt, seat, place.id, place.node, object);
     rest(shared, &mut worker.seats, place);
     Some(answer)
 }
@@ -63,7 +63,7 @@ pub fn drop_key<R: Wait>(worker: &mut Worker<'_, R>, place: Place, key: &[u8]) -
         by: BY,
         birth: group,
     };
-    let answer = tenants::drop_key(worker.rt, &shared.core, seat, call, &key);
+    let answer = tenants::drop_key(worker.rt, seat, call, &key);
     rest(shared, &mut worker.seats, place);
     Some(answer)
 }

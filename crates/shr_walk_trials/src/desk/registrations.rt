@@ -12,18 +12,16 @@ use std::sync::Wait;
 pub fn register<R: Wait>(worker: &mut Worker<'_, R>, decl: u8) -> Option<RegisterAnswer>
     ensures { worker.new.shared ≡ worker.old.shared }
 {
-    let core = &worker.shared.core;
-    if decl >= core.shape().decls {
+    if decl >= worker.shared.core.shape().decls {
         return None;
     }
-    Some(registering::register(worker.rt, core, &mut worker.seats.cache.core, decl))
+    Some(registering::register(worker.rt, &mut worker.seats.cache.core, decl))
 }
 
 /// Unregisters a declaration, if there is such a one. Its objects are not uncharged. Our own.
 pub fn unregister<R: Wait>(worker: &mut Worker<'_, R>, decl: u8) -> Option<UnregisterAnswer> {
-    let core = &worker.shared.core;
-    if decl >= core.shape().decls {
+    if decl >= worker.shared.core.shape().decls {
         return None;
     }
-    Some(unregistering::unregister(worker.rt, core, &mut worker.seats.cache.core, decl, BY))
+    Some(unregistering::unregister(worker.rt, &mut worker.seats.cache.core, decl, BY))
 }

@@ -11,8 +11,7 @@ pub fn count<R: Wait>(worker: &mut Worker<'_, R>, place: Place) -> Option<Seen> 
     if !is_place(worker.shared, place) {
         return None;
     }
-    let core = &worker.shared.core;
-    Some(core.count(&mut worker.seats.cache.core, place))
+    Some(worker.seats.cache.core.count(place))
 }
 
 /// Whether the bit of a place below the root is set, for an id below 64. Our own.
@@ -20,19 +19,17 @@ pub fn is_set<R: Wait>(worker: &mut Worker<'_, R>, place: Place) -> Option<bool>
     if !is_place(worker.shared, place) || place.group == 0 || place.id >= 64 {
         return None;
     }
-    let core = &worker.shared.core;
-    let bits = core.map(&mut worker.seats.cache.core, place.node, place.group, 0);
+    let bits = worker.seats.cache.core.map(place.node, place.group, 0);
     Some((bits >> place.id) % 2 == 1)
 }
 
 /// The phase of an id: modulo 3 it is 0 where the id is idle, 1 where it is live, and 2 where it is dying.
 /// Our own.
 pub fn phase<R: Wait>(worker: &mut Worker<'_, R>, id: u16) -> Option<u16> {
-    let core = &worker.shared.core;
-    if id >= core.shape().ids {
+    if id >= worker.shared.core.shape().ids {
         return None;
     }
-    Some(core.word_of(&mut worker.seats.cache.core, id).phase)
+    Some(worker.seats.cache.core.word_of(id).phase)
 }
 
 /// Defers so many objects more at a place, and tells whether there is such a place. Our own.
@@ -40,8 +37,7 @@ pub fn defer<R: Wait>(worker: &mut Worker<'_, R>, place: Place, more: u64) -> bo
     if !is_place(worker.shared, place) {
         return false;
     }
-    let deferred = &worker.shared.deferred;
-    deferred.give(&mut worker.seats.deferred, place, more);
+    worker.seats.deferred.give(place, more);
     true
 }
 
@@ -50,6 +46,5 @@ pub fn take_deferred<R: Wait>(worker: &mut Worker<'_, R>, place: Place) -> Optio
     if !is_place(worker.shared, place) {
         return None;
     }
-    let deferred = &worker.shared.deferred;
-    Some(deferred.take(&mut worker.seats.deferred, place))
+    Some(worker.seats.deferred.take(place))
 }

@@ -4,5 +4,5 @@ use Rattle.shr_cache.proofs.charges.uncharge.Goals as goal
 
 pub returns-clause-uncharged : goal.returns-clause-uncharged
 returns-clause-uncharged g c = let at = c.worker.inside in let e = c.uncharge in
-    subst (λ (w : Acting). Uncharges w.shared w.by c.args.group w.state (state_of (with_charge at.seats e.new.seat e.new.uses))) c.worker.view_is
-    (uncharged at.shared.now c.worker.invariant.shared at.by c.args.group at.seats e.new.seat e.new.uses e.ensures.uncharges)
+    subst (λ (w : Acting). Uncharges w.shared w.by c.args.group w.state (state_of (with_charge at.seats e.new.self e.new.uses))) c.worker.view_is
+    (uncharged at.shared.now c.worker.invariant.shared at.by c.args.group at.seats e.new.self e.new.uses c.worker.invariant.rested.charge e.ensures.uncharges)

@@ -15,7 +15,7 @@ loop-visits-init g c = let a = listing_of c.args.lister.now in record {
 }
 
 pub scan_list-requires-clause-ready : goal.scan_list-requires-clause-ready
-scan_list-requires-clause-ready g c = let a = listing_of c.args.lister.now in ready_stays a.shared a.place (place_number a.place) a.walk a.by a.policy c.args.seats.now.cache c.loop-visits.seats.cache c.requires.ready c.loop-visits.invariant.kept
+scan_list-requires-clause-ready g c = let a = listing_of c.args.lister.now in ready_stays a.shared.core a.shared.charge a.place a.shared (place_number a.place) a.walk a.by a.policy c.args.seats.now.cache c.loop-visits.seats.cache c.requires.ready c.loop-visits.invariant.kept
 
 pub returns-then-met-eq0-clause-kept : goal.returns-then-met-eq0-clause-kept
 returns-then-met-eq0-clause-kept g c = let a = listing_of c.args.lister.now in keeps_trans a.shared (place_number a.place) a.walk a.by a.policy c.args.seats.now.cache c.loop-visits.seats.cache c.scan_list.new.seat c.loop-visits.invariant.kept c.scan_list.ensures.kept

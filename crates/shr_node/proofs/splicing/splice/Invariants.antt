@@ -1,14 +1,14 @@
-use Rattle.shr_node.proofs.Common.{◌≤◌, groups_in, IsOf, view_of, shape_of, AreLooked}
+use Rattle.shr_node.proofs.Common.{◌≡◌, ◌≤◌, groups_in, view_of, shape_of, AreLooked}
 use Rattle.shr_node.proofs.Splices.{IsSplicing}
 use Rattle.shr_node.proofs.splicing.splice.Given as goal
 
 abbrev pub invariant-splicing : goal.invariant-splicing
 invariant-splicing g l = record {
-  seat : IsOf l.core l.seat;
-  there : l.at ≤ groups_in (shape_of l.core);
+  table : l.seat.core ≡ l.fn.seat.core;
+  there : l.at ≤ groups_in (shape_of l.fn.seat.core);
   above : l.group ≤ l.at;
-  looked : AreLooked (shape_of l.core) (view_of l.seat) l.id l.node l.group l.opens (groups_in (shape_of l.core));
-  splices : IsSplicing (shape_of l.core) (view_of l.fn.seat) (view_of l.seat) l.id l.node l.group l.opens l.at l.moved;
+  looked : AreLooked (shape_of l.fn.seat.core) (view_of l.seat) l.id l.node l.group l.opens (groups_in (shape_of l.fn.seat.core));
+  splices : IsSplicing (shape_of l.fn.seat.core) (view_of l.fn.seat) (view_of l.seat) l.id l.node l.group l.opens l.at l.moved;
 }
 
 abbrev pub decreases-splicing : goal.decreases-splicing

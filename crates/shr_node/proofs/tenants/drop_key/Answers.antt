@@ -1,4 +1,4 @@
-use Rattle.shr_node.proofs.Common.{◌≡◌, sym, refl, ap, subst, ◌∙◌, named_in, drop_kind_of, Spent, Room, view_of, shape_of, IsRoomReady, IsUntouched, drop_entry, DropGives}
+use Rattle.shr_node.proofs.Common.{◌≡◌, sym, refl, ap, subst, ◌∙◌, named_in, drop_kind_of, Spent, Core, Room, view_of, shape_of, IsRoomReady, IsUntouched, drop_entry, DropGives}
 use Rattle.shr_base.specs.declared.journals.DropKind.TheVariants as kind
 use Rattle.shr_node.specs.declared.answers.NodeDrop.{NodeDrop}
 use Rattle.shr_node.specs.declared.answers.NodeDrop.TheVariants as node
@@ -7,28 +7,30 @@ use Rattle.shr_node.proofs.tenants.drop_key.Goals.{in-Dropped, in-Pinned, in-Mis
 use Rattle.shr_node.proofs.tenants.drop_key.Goals as goal
 
 pub give_back-requires-clause-ready : goal.give_back-requires-clause-ready
-give_back-requires-clause-ready g c more = let room : Room = c.open_room-room.result in let o = c.open_room-room.ensures.opened in let a = asked_of c.args.core.now (view_of c.args.seat.now) c.args.call.id c.args.call.node c.args.call.birth c.requires.rooms c.requires.holds c.requires.place in
-    elim c.match-drop_key.branch as (λ _. IsRoomReady (shape_of c.args.core.now) (view_of c.open_room-room.new.seat) (record { place = room.place; list = c.drop_key.new.self })) [
+give_back-requires-clause-ready g c more = let room : Room = c.open_room-room.result in let o = c.open_room-room.ensures.opened in let a = asked_of c.args.seat.now.core (view_of c.args.seat.now) c.args.call.id c.args.call.node c.args.call.birth c.requires.rooms c.requires.holds c.requires.place in
+    subst (λ (x : Core). IsRoomReady (shape_of x) (view_of c.open_room-room.new.seat) (record { place = room.place; list = c.drop_key.new.self })) (sym c.open_room-room.ensures.table)
+    (elim c.match-drop_key.branch as (λ _. IsRoomReady (shape_of c.args.seat.now.core) (view_of c.open_room-room.new.seat) (record { place = room.place; list = c.drop_key.new.self })) [
       | in-Dropped w ↦ tenant_ready _ _ _ _ _ _ room o a c.drop_key.new.self (drop_entry room.list c.args.call.by c.args.call.birth c.args.key.now) w.in-Dropped.entry refl w.in-Dropped.ensures.2
       | in-Pinned w ↦ tenant_ready _ _ _ _ _ _ room o a c.drop_key.new.self (drop_entry room.list c.args.call.by c.args.call.birth c.args.key.now) w.in-Pinned.entry refl w.in-Pinned.ensures.1
       | in-Miss w ↦ tenant_ready _ _ _ _ _ _ room o a c.drop_key.new.self (drop_entry room.list c.args.call.by c.args.call.birth c.args.key.now) w.in-Miss.entry refl w.in-Miss.ensures.1
       | in-Worn w ↦ not_grown _ _ _ c.before_call-before.ensures.entries w.in-Worn.ensures.same more
       | in-Memory w ↦ not_grown _ _ _ c.before_call-before.ensures.entries w.in-Memory.ensures.same more
-    ]
+    ])
 
 pub give_back-requires-clause-untouched : goal.give_back-requires-clause-untouched
-give_back-requires-clause-untouched g c left = let room : Room = c.open_room-room.result in let o = c.open_room-room.ensures.opened in let a = asked_of c.args.core.now (view_of c.args.seat.now) c.args.call.id c.args.call.node c.args.call.birth c.requires.rooms c.requires.holds c.requires.place in
-    elim c.match-drop_key.branch as (λ _. IsUntouched (shape_of c.args.core.now) (view_of c.open_room-room.new.seat) (record { place = room.place; list = c.drop_key.new.self })) [
+give_back-requires-clause-untouched g c left = let room : Room = c.open_room-room.result in let o = c.open_room-room.ensures.opened in let a = asked_of c.args.seat.now.core (view_of c.args.seat.now) c.args.call.id c.args.call.node c.args.call.birth c.requires.rooms c.requires.holds c.requires.place in
+    subst (λ (x : Core). IsUntouched (shape_of x) (view_of c.open_room-room.new.seat) (record { place = room.place; list = c.drop_key.new.self })) (sym c.open_room-room.ensures.table)
+    (elim c.match-drop_key.branch as (λ _. IsUntouched (shape_of c.args.seat.now.core) (view_of c.open_room-room.new.seat) (record { place = room.place; list = c.drop_key.new.self })) [
       | in-Dropped w ↦ not_left _ _ _ _ _ c.before_call-before.ensures.entries w.in-Dropped.ensures.2 left
       | in-Pinned w ↦ not_left _ _ _ _ _ c.before_call-before.ensures.entries w.in-Pinned.ensures.1 left
       | in-Miss w ↦ not_left _ _ _ _ _ c.before_call-before.ensures.entries w.in-Miss.ensures.1 left
       | in-Worn w ↦ tenant_untouched _ _ _ _ _ _ room o a c.drop_key.new.self w.in-Worn.ensures.same
       | in-Memory w ↦ tenant_untouched _ _ _ _ _ _ room o a c.drop_key.new.self w.in-Memory.ensures.same
-    ]
+    ])
 
 pub returns-clause-answer : goal.returns-clause-answer
-returns-clause-answer g c = let room : Room = c.open_room-room.result in let o = c.open_room-room.ensures.opened in let a = asked_of c.args.core.now (view_of c.args.seat.now) c.args.call.id c.args.call.node c.args.call.birth c.requires.rooms c.requires.holds c.requires.place in
-    let gives : NodeDrop → Type 0 = λ n. DropGives (shape_of c.args.core.now) (view_of c.args.seat.now) c.args.call.id c.args.call.node c.args.call.by c.args.call.birth c.args.key.now n (view_of c.give_back.new.seat) in
+returns-clause-answer g c = let room : Room = c.open_room-room.result in let o = c.open_room-room.ensures.opened in let a = asked_of c.args.seat.now.core (view_of c.args.seat.now) c.args.call.id c.args.call.node c.args.call.birth c.requires.rooms c.requires.holds c.requires.place in
+    let gives : NodeDrop → Type 0 = λ n. DropGives (shape_of c.args.seat.now.core) (view_of c.args.seat.now) c.args.call.id c.args.call.node c.args.call.by c.args.call.birth c.args.key.now n (view_of c.give_back.new.seat) in
     elim c.match-drop_key.branch as (λ _. gives c.match-drop_key.answer) [
       | in-Dropped w ↦ subst gives (sym w.answer-is) (tenant_acts _ _ _ _ _ _ room o a c.drop_key.new.self _ (λ old. drop_entry old c.args.call.by c.args.call.birth c.args.key.now) w.in-Dropped.entry (λ items. drop_kind_of (named_in c.args.call.birth c.args.key.now items) ≡ kind.Dropped) refl (dropped c.args.call.birth c.args.key.now room.list.items _ w.in-Dropped.ensures.0 w.in-Dropped.ensures.1) w.in-Dropped.ensures.2 (c.give_back.ensures.kept (grown _ _ _ _ _ c.before_call-before.ensures.entries w.in-Dropped.ensures.2)))
       | in-Pinned w ↦ subst gives (sym w.answer-is) (tenant_acts _ _ _ _ _ _ room o a c.drop_key.new.self _ (λ old. drop_entry old c.args.call.by c.args.call.birth c.args.key.now) w.in-Pinned.entry (λ items. drop_kind_of (named_in c.args.call.birth c.args.key.now items) ≡ kind.Pinned) refl w.in-Pinned.ensures.0 w.in-Pinned.ensures.1 (c.give_back.ensures.kept (grown _ _ _ _ _ c.before_call-before.ensures.entries w.in-Pinned.ensures.1)))

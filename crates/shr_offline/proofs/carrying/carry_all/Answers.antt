@@ -10,7 +10,6 @@ loop-number-preserved c = let inv = c.loop-number.invariant in let did = c.carry
     let gains = subst (λ (k : ℕ). GainsMoves c.loop-number.seat c.carry-sum.new.seat (carry_move (record { id = n / k; node = n % k; group = parent_of shape.parents.items g }) (record { place = record { id = n / k; node = n % k; group = g }; amount = amount }))) nodes
     (subst (λ (p : ℕ). GainsMoves c.loop-number.seat c.carry-sum.new.seat (carry_move (record { id = n / c.shape.result.now.nodes; node = n % c.shape.result.now.nodes; group = p }) (record { place = record { id = n / c.shape.result.now.nodes; node = n % c.shape.result.now.nodes; group = g }; amount = amount }))) parent did.gains) in
     let noted = subst (λ (k : ℕ). c.carry-sum.new.carries.items ≡ c.loop-number.carries.items ++ carries_noted c.args.by (record { place = record { id = n / k; node = n % k; group = g }; amount = amount } ∷ [])) nodes did.noted in record {
-      seat = did.seat;
       spare = let a = inv.spare in let b = did.spare in omega (arith, a, b);
       carried = carried_more shape c.args.by g n c.loop-number.sum amount c.args.seat.now c.loop-number.seat c.carry-sum.new.seat c.args.carries.now.items c.loop-number.carries.items c.carry-sum.new.carries.items
           (record { place = record { id = n / shape.nodes; node = n % shape.nodes; group = g }; amount = amount }) refl refl inv.carried gains noted;

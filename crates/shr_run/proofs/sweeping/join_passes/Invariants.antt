@@ -1,4 +1,4 @@
-use Rattle.shr_run.proofs.Common.{◌≡◌, ◌++◌, map, All, worker_of, IsPassBack}
+use Rattle.shr_run.proofs.Common.{◌≡◌, ◌++◌, map, All, helped_of, IsPassBack}
 use Rattle.shr_pool.specs.Passes as passes
 use Rattle.shr_run.proofs.Passing.{IsJoining}
 use Rattle.shr_run.proofs.sweeping.join_passes.Given as goal
@@ -9,7 +9,7 @@ invariant-loop-helper l = record {
   finite : (goal.iterator-loop-helper).is_finite l.helper-iterator;
   queue : l.jobs.queue ≡ l.fn.jobs.queue;
   first : passes.IsJobPass l.jobs.queue l.jobs.first;
-  joining : IsJoining l.fn.jobs.queue (passes.pass_view l.fn.jobs.first) (passes.pass_view l.jobs.first) l.helper-iterator.rest.items l.fn.helpers.items;
+  joining : IsJoining l.fn.jobs.queue (passes.pass_view l.fn.jobs.first) (passes.pass_view l.jobs.first) l.helper-iterator.rest.items l.fn.helped.items;
   back : All (IsPassBack l.fn.jobs.queue) l.helper-iterator.rest.items;
-  workers : l.workers.items ++ map worker_of l.helper-iterator.rest.items ≡ map worker_of l.fn.helpers.items;
+  workers : l.workers.items ++ map helped_of l.helper-iterator.rest.items ≡ map helped_of l.fn.helped.items;
 }

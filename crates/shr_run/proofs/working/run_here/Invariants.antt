@@ -1,13 +1,12 @@
-use Rattle.shr_run.proofs.Common.{◌≡◌, All, Task}
+use Rattle.shr_run.proofs.Common.{All, Starting}
 use Rattle.shr_worker.specs.Tasks.{IsTask}
 use Rattle.shr_run.proofs.Here.{HasRunFront}
 use Rattle.shr_run.proofs.working.run_here.Given as goal
 
-abbrev pub invariant-loop-task : goal.invariant-loop-task
-invariant-loop-task g l = record {
-  next : (goal.iterator-loop-task g).can_next l.task-iterator;
-  finite : (goal.iterator-loop-task g).is_finite l.task-iterator;
-  tables : l.tables ≡ l.fn.tables;
-  tasks : All (λ (t : Task). IsTask l.tables.shared l.tables.pools t) l.task-iterator.rest.items;
-  front : HasRunFront l.tables.shared l.tables.pools l.task-iterator.rest.items l.fn.tasks.items l.results.items;
+abbrev pub invariant-loop-start : goal.invariant-loop-start
+invariant-loop-start g l = record {
+  next : (goal.iterator-loop-start g).can_next l.start-iterator;
+  finite : (goal.iterator-loop-start g).is_finite l.start-iterator;
+  tasks : All (λ (s : Starting). IsTask s.shared s.task) l.start-iterator.rest.items;
+  front : HasRunFront l.start-iterator.rest.items l.fn.starts.items l.results.items;
 }

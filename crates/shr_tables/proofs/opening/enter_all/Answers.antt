@@ -1,5 +1,6 @@
 use Rattle.shr_tables.proofs.Common.{◌≡◌, ◌<◌, ◌+◌, ℕ, ap, sym, refl, length, get_or, List, true, false, ◌∙◌, arith, Some, slice_get, nat_tests, CacheDecl, opener, view_of, content_of, within_of_valid, shape_of}
 use Rattle.shr_charge.proofs.Listing.{get_here}
+use Rattle.shr_core.specs.declared.table.Core.{Core}
 use Rattle.shr_tables.proofs.Entering.{entered_more, entered_less, still_untried}
 use Rattle.shr_tables.proofs.First.{entered_off, next_at, on_next, off_next, on_few}
 use Rattle.shr_tables.proofs.opening.enter_all.Goals as goal
@@ -12,7 +13,7 @@ loop-decl-preserved g c = let inv = c.loop-decl.invariant in let enters = c.in_o
     let on : item.on ≡ true = grind (arith, nat_tests, c.if-not-caches-decl.false) in record {
       shared = refl;
       caches = inv.caches;
-      seat = c.enter.ensures.seat;
+      table = c.enter.ensures.table ∙ inv.table;
       idle = c.enter.ensures.idle;
       standing = enters.gains.adds.standing ∙ inv.standing;
       untried = still_untried n (view_of c.loop-decl.seat) (view_of c.enter.new.seat) enters inv.untried;
@@ -29,7 +30,7 @@ loop-decl-preserved-then-not-caches-decl g c = let inv = c.loop-decl.invariant i
     let off : item.on ≡ false = grind (arith, nat_tests, c.if-not-caches-decl.true) in record {
       shared = refl;
       caches = inv.caches;
-      seat = inv.seat;
+      table = inv.table;
       idle = inv.idle;
       standing = inv.standing;
       untried = inv.untried;
@@ -46,4 +47,5 @@ enter-requires-clause-room g c = let inv = c.loop-decl.invariant in let cs : Lis
     let count = inv.count in
     let next = on_next cs n item (next_at cs n item within here) on in
     let few = on_few cs (n + 1) (shape_of c.args.shared.now.core).ids (omega (arith, (within_of_valid (content_of c.args.shared.now.script) c.requires.shared.script).on, c.requires.shared.ids)) in
-    omega (arith, count, next, few)
+    let same = ap (λ (x : Core). (shape_of x).ids) inv.table in
+    omega (arith, count, next, few, same)

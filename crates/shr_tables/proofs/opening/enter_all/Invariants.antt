@@ -1,4 +1,4 @@
-use Rattle.shr_tables.proofs.Common.{◌≡◌, [], length, take, opener, view_of, AreEntered, HasEntered, IsOf}
+use Rattle.shr_tables.proofs.Common.{◌≡◌, [], length, take, opener, view_of, AreEntered, HasEntered}
 use Rattle.shr_core.specs.Gained.{IsIdle}
 use Rattle.shr_seats.specs.Standing.{at_first}
 use Rattle.shr_tables.proofs.First.{on_count}
@@ -8,7 +8,7 @@ abbrev pub invariant-loop-decl : goal.invariant-loop-decl
 invariant-loop-decl g l = record {
   shared : l.shared ≡ l.fn.shared;
   caches : l.caches ≡ l.fn.shared.script.caches.items;
-  seat : IsOf l.shared.core l.seat;
+  table : l.seat.core ≡ l.fn.shared.core;
   idle : IsIdle (view_of l.seat);
   standing : (view_of l.seat).standing ≡ at_first;
   untried : (view_of l.seat).claims.attempts ≡ [];

@@ -1,6 +1,6 @@
 use Rattle.std.proofs.Common.{◌≡◌}
-use Rattle.shr_deferred.specs.Seat.{IsDeferredSeat, deferred_standing}
+use Rattle.shr_deferred.specs.Seat.{deferred_standing}
 use Rattle.shr_walk_trials.proofs.deferred.carrying.Given as goal
 
 abbrev pub invariant-loop-turn : goal.invariant-loop-turn
-invariant-loop-turn l = record { seat : IsDeferredSeat l.deferred l.seat; standing : deferred_standing l.seat ≡ deferred_standing l.fn.seat }
+invariant-loop-turn l = record { table : l.seat.deferred ≡ l.fn.seat.deferred; standing : deferred_standing l.seat ≡ deferred_standing l.fn.seat }

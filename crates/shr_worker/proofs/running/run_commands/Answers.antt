@@ -13,7 +13,7 @@ loop-k-init g c = let w = c.args.worker.now in let at = c.worker.inside in let p
     ∙ (ap (λ (v : Acting). crew_at v p c.args.isolations.now.items) c.worker.view_is ∙ ap (λ (l : List Isolation). crew_at w p l) c.requires.none.2) in record {
       shared = ap (λ (v : Acting). v.shared) c.worker.view_is;
       number = ap (λ (v : Acting). v.by.worker) c.worker.view_is;
-      plain = c.requires.plain_seat;
+      pools = refl;
       few = let walks = ap (λ (l : List PlainWalk). length l) c.requires.none.0 in omega (arith, walks);
       count = ap (λ (l : List Answered). length l) none;
       work = subst (λ (t : CrewState). IsWorkOf w.shared w.by.worker c.reserve.new.self.items first t) (sym same)
@@ -50,7 +50,7 @@ loop-k-preserved g c = let inv = c.loop-k.invariant in let w = c.args.worker.now
     let gives = subst (λ (y : Shared). DeedGives y (command_serial n k) command answered s t) inv.shared (subst (λ (m : ℕ). DeedGives c.loop-k.worker.shared (command_serial m k) command answered s t) inv.number c.in_ok-answered.ensures.deed) in record {
       shared = c.run_next.ensures.shared ∙ inv.shared;
       number = c.run_next.ensures.worker ∙ inv.number;
-      plain = c.run_next.ensures.plain_seat;
+      pools = c.run_next.ensures.pools ∙ inv.pools;
       few = omega (arith, walks, one);
       count = ap (λ (l : List Answered). length l) pushed ∙ omega (arith, length-append before (answered ∷ []), count);
       work = subst (λ (l : List Answered). IsWorkOf x n l first t) (sym pushed)

@@ -2,4 +2,4 @@ use Rattle.shr_charge.proofs.Common.{◌≡◌, with_begin, with_tree}
 use Rattle.shr_charge.proofs.table.Charge.store_begin.Given as goal
 
 abbrev pub ghosts-store_as : goal.ghosts-store_as
-ghosts-store_as a = record { tells = λ _ r. r ≡ with_tree a.seat.now.me (with_begin a.seat.now.me.0.tree a._group) }
+ghosts-store_as a = record { tells = λ _ r. r ≡ with_tree a.token.now.me (with_begin a.token.now.me.0.tree a._group) }

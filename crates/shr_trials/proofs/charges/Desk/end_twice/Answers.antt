@@ -14,4 +14,4 @@ resumed_began h g entry a old journal is tells = let t : BeginTells h g (Resumed
     ap {B = Bool} (λ (x : Option ℕ). is_some x) t.begun
 
 pub done-first-requires-clause-begun : goal.done-first-requires-clause-begun
-done-first-requires-clause-begun g c = resumed_began (hierarchy_of c.args.self.now.charge.shape) c.args.group c.in-Resumed.entry c.begin_offline.result (tree_of c.args.self.now.seat) (tree_of c.begin_offline.new.seat).known c.in-Resumed.is c.begin_offline.ensures.tells
+done-first-requires-clause-begun g c = resumed_began (hierarchy_of c.args.self.now.seat.charge.shape) c.args.group c.in-Resumed.entry c.begin_offline.result (tree_of c.args.self.now.seat) (tree_of c.begin_offline.new.self).known c.in-Resumed.is c.begin_offline.ensures.tells

@@ -1,5 +1,0 @@
-use Rattle.shr_charge.proofs.Common.{false, call_count, TellsUse, op_of}
-use Rattle.shr_charge.proofs.table.Charge.add_down.Given as goal
-
-abbrev pub ghosts-add_as : goal.ghosts-add_as
-ghosts-add_as a = record { tells = λ w r. TellsUse a.seat.now.me (op_of a._group a._by false w) 0 (call_count a._first) r }

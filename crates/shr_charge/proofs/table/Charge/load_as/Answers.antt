@@ -1,0 +1,6 @@
+use Rattle.shr_charge.proofs.Common.{refl}
+use Rattle.shr_charge.proofs.SeatLaws.{token_is}
+use Rattle.shr_charge.proofs.table.Charge.load_as.Goals as goal
+
+pub returns-clause-same : goal.returns-clause-same
+returns-clause-same g c = token_is c.args.token.now c.load.new.seat _ c.load.ensures.0 c.load.ensures.1 refl

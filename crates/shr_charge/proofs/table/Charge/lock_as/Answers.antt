@@ -1,0 +1,6 @@
+use Rattle.shr_charge.proofs.Common.{refl}
+use Rattle.shr_charge.proofs.SeatLaws.{token_is}
+use Rattle.shr_charge.proofs.table.Charge.lock_as.Goals as goal
+
+pub returns-clause-same : goal.returns-clause-same
+returns-clause-same g c = token_is c.args.token.now c.compare_exchange.new.seat _ c.compare_exchange.ensures.0 c.compare_exchange.ensures.1 refl
