@@ -7,17 +7,18 @@ ghost use Rattle.std.specs.List.{AllByRecursion};
 ghost use Rattle.shr_base.specs.declared.journals.Entry.TheVariants.{Add};
 ghost use Rattle.shr_report.specs.Numbers.{IsSerialNumbered, IsObjectNumbered, IsEntryNumbered, IsListNumbered};
 ghost use Rattle.shr_report.specs.Variants.{IsTenants, IsOfNoTenant};
-ghost use Rattle.shr_report.specs.AnswerText.{choice};
+ghost use Rattle.shr_report.specs.WellFormed.{IsNumbered};
+ghost use Rattle.shr_report.specs.AnswerText.{choice, place_words};
 ghost use Rattle.shr_report.specs.Text.{policy_word, kind_word, item_line, entry_line, place_lines};
 
-use crate::lines::Word::Number;
-use crate::lines::{add_text, add_value, end_with, put_line};
+use crate::counters::add_place;
+use crate::lines::{add_text, add_value, end_with};
 use crate::piece::Piece;
 use shr_base::ends::PlaceEnd;
 use shr_base::items::Items;
 use shr_base::journals::{DropKind, Entry};
 use shr_base::objects::{Object, Policy};
-use shr_base::places::Serial;
+use shr_base::places::{Place, Serial};
 use shr_base::text::Text;
 use shr_outside::outside::Sink;
 use shr_outside::paper::Paper;
@@ -344,42 +345,45 @@ fn entry<K: Sink>(out: &mut Paper<K>, piece: &mut Piece, e: &Entry)
     }
 }
 
-fn entries<K: Sink>(out: &mut Paper<K>, entries: &[Entry])
+// The line of a list's place.
+#[inline(always)]
+fn put_list<K: Sink>(out: &mut Paper<K>, piece: &mut Piece, place: Place)
+    ensures printed { Prints K.written K.faults out.old out.new
+        (line (codes "list") (place_words place)) }
+    ensures numbers { IsNumbered place }
+{
+    let end = piece.line_end();
+    let start = add_place(piece, end, place);
+    let start = piece.exactly(start, b"list");
+    piece.put(start, out)
+}
+
+fn entries<K: Sink>(out: &mut Paper<K>, piece: &mut Piece, entries: &[Entry])
     ensures printed { Prints K.written K.faults out.old out.new (flat_map entry_line entries.now) }
     ensures numbers { AllByRecursion IsEntryNumbered entries.now }
 {
-    let mut piece = Piece::new();
     for e in entries {
-        entry(out, &mut piece, e);
+        entry(out, piece, e);
     }
 }
 
-fn items<K: Sink>(out: &mut Paper<K>, items: &Items)
+fn items<K: Sink>(out: &mut Paper<K>, piece: &mut Piece, items: &Items)
     ensures printed { Prints K.written K.faults out.old out.new
         (flat_map item_line items.now.items) }
     ensures numbers { AllByRecursion IsObjectNumbered items.now.items }
 {
-    let mut piece = Piece::new();
     let mut walk = items.walk();
     while let Some(o) = walk.next() {
-        item(out, &mut piece, o);
+        item(out, piece, o);
     }
 }
 
 /// A list: its place, its journal, and its items from the head. Our own.
-pub fn place<K: Sink>(out: &mut Paper<K>, end: &PlaceEnd)
+pub fn place<K: Sink>(out: &mut Paper<K>, piece: &mut Piece, end: &PlaceEnd)
     ensures printed { Prints K.written K.faults out.old out.new (place_lines end.now) }
     ensures numbers { IsListNumbered end.now }
 {
-    put_line(
-        out,
-        b"list",
-        &[
-            Number(end.place.id as u64),
-            Number(end.place.node as u64),
-            Number(end.place.group as u64),
-        ],
-    );
-    entries(out, end.entries.as_slice());
-    items(out, &end.items)
+    put_list(out, piece, end.place);
+    entries(out, piece, end.entries.as_slice());
+    items(out, piece, &end.items)
 }

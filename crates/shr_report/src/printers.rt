@@ -8,6 +8,7 @@ ghost use Rattle.shr_report.specs.Numbers.{IsListNumbered, IsPartNumbered, IsUse
 ghost use Rattle.shr_report.specs.Text.{worker_lines, place_lines, use_line};
 
 use crate::entries::place;
+use crate::piece::Piece;
 use crate::uses::put_uses;
 use crate::workers::put_workers;
 use shr_base::ends::{PlaceEnd, WorkerPart};
@@ -61,7 +62,8 @@ pub fn put_places<K: Sink>(out: &mut Paper<K>, ends: &[PlaceEnd])
     ensures printed { Prints K.written K.faults out.old out.new (flat_map place_lines ends.now) }
     ensures numbers { AllByRecursion IsListNumbered ends.now }
 {
+    let mut piece = Piece::new();
     for end in ends {
-        place(out, end);
+        place(out, &mut piece, end);
     }
 }
