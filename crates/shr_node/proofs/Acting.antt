@@ -1,8 +1,13 @@
 -- Acting on the first open list, and giving its room back.
-use Rattle.shr_node.proofs.Common.{◌≡◌, ℕ, zero, suc, ◌<◌, ◌≤◌, Bool, true, false, cond, List, [], ◌∷◌, ◌++◌, length, sym, refl, ap, subst, ◌∙◌, inl, arith, length-append, ne_eqb, not_some, append-nil, Contains, Option, Some, ◌&&◌, ◌==◌, nat_lt, Object, Place, Serial, Entry, Add, Look, Drop, Pin, Scan, MovedIn, Closed, Drained, place_number, at_group, IsTree, is_child, named_in, step, IsOutcome, is_closed, drop_kind_of, moved_in, IsAllowed, child_takes, child_higher, IsAtOrAbove-le, IsAtOrAbove-refl, Listed, Policy, Takes, RefusesWorn, LacksMemory, TellsScan, scan_entry, drain_entry, Each, View, Shape, Room, RoomContent, Holding, Made, Known, Claims, no_rooms, place_id, group_of, beside, AreBorn, list_content, groups_in, Core, IsPlaceOfShape, MayTake, shape_of, IsInHand, with_taken, with_given, in_hand, IsTaken, last_entry, half_after, moved_in_hand, IsBacked, has_taken, inside, Gains, Knows, bits_for, with_kept, IsFirstOpen, IsOpened, WasOpen, IsRoomReady, IsUntouched, entry_made, Acts, LackedRoom, HadRoom, ScansPlace, IsBornAt, HasRoom, IsWorn, Counted, IsUnspliced, taken_in_hand, TenantIsWorn, TenantLacks}
+use Rattle.shr_node.proofs.Common.{◌≡◌, ℕ, zero, suc, ◌<◌, ◌≤◌, Bool, true, false, cond, List, [], ◌∷◌, ◌++◌, length, sym, refl, ap, subst, ◌∙◌, inl, arith, length-append, ne_eqb, not_some, append-nil, Contains, Option, Some, ◌&&◌, ◌==◌, nat_lt, Object, Place, Serial, Entry, Add, Look, Drop, Pin, Scan, MovedIn, Closed, Drained, place_number, at_group, IsTree, is_child, named_in, step, IsOutcome, is_closed, drop_kind_of, moved_in, IsAllowed, child_takes, child_higher, IsAtOrAbove-le, IsAtOrAbove-refl, Listed, Policy, Takes, RefusesWorn, LacksMemory, TellsScan, scan_entry, drain_entry, Each, View, Shape, Room, RoomContent, Holding, Made, Known, Claims, no_rooms, place_id, group_of, beside, AreBorn, list_content, groups_in, Core, IsPlaceOfShape, MayTake, shape_of, IsInHand, with_taken, with_given, in_hand, IsTaken, last_entry, half_after, moved_in_hand, IsBacked, has_taken, inside, Gains, Knows, bits_for, with_kept, NodeAnswer, IsFirstOpen, IsOpened, WasOpen, IsRoomReady, IsUntouched, entry_made, Acts, LackedRoom, HadRoom, ScansPlace, IsBornAt, HasRoom, IsWorn, Counted, IsUnspliced, taken_in_hand, TenantGives, TenantIsWorn, TenantLacks}
 use Rattle.shr_base.specs.declared.journals.DropKind.TheVariants.{Dropped, Pinned}
+use Rattle.shr_base.specs.declared.replies.Spent.TheVariants as spent
+use Rattle.shr_node.specs.declared.answers.NodeAnswer.TheVariants as answers
 use Rattle.shr_model.specs.Tenants.{birth_of}
+use Rattle.shr_model.specs.Objects.{holds, is_named}
 use Rattle.shr_model.specs.Scan.{scan_of}
+use Rattle.shr_model.proofs.ObjectLaws.{is_some_find}
+use Rattle.std.specs.Prelude.{None, is_some, option_map}
 use Rattle.shr_core.proofs.Emptiness.{step_none}
 use Rattle.shr_node.proofs.Gaining.{same_seen, gains_none, gains_then, gains_given, known_given, gains_kept, known_kept, knows_still, each_before}
 use Rattle.shr_core.proofs.Storing.{last_pushed}
@@ -333,9 +338,64 @@ stayed old new before was same = omega (arith, was, ap (λ (l : Listed). length 
 pub not_grown : {A : Type 0} (old new : Listed) (before : ℕ) → before ≡ length old.entries → new ≡ old → before < length new.entries → A
 not_grown old new before was same more = let still = stayed old new before was same in absurd (omega (arith, more, still))
 
+-- What a list told of a tenant's call, which makes this entry of it and tells this of its objects: the entry was made,
+-- or the list had no room for it, or there was no memory, and then it stayed as it was.
+abbrev pub Hears : {A : Type 0} → (List Object → A) → (Listed → Entry) → Place → Listed → NodeAnswer A → Listed → Type 0
+Hears tells e place old (answers.Told at told) new = (at.place ≡ place) × (tells old.items ≡ told) × Takes old new (e old) at.entry
+Hears tells e place old (answers.Worn (spent.List at entries items)) new = (at ≡ place) × RefusesWorn old new (e old) entries items
+Hears tells e place old (answers.Worn s) new = ⊥
+Hears tells e place old answers.Memory new = LacksMemory old new (e old)
+
+-- a tenant's call took the room of the first open list, and heard this of it
+pub record IsCall {A : Type 0} (core then : Core) (v w : View) (id node birth before : ℕ) (tells : List Object → A) (e : Listed → Entry) (room : Room) (answer : NodeAnswer A) (new : Listed) : Type 0 where
+  pub table : then ≡ core
+  pub opened : IsOpened (shape_of core) v w id node birth room
+  pub asked : IsAsked (shape_of core) v id node birth
+  pub mine : birth_of (e room.list) ≡ Some birth
+  pub was : before ≡ length room.list.entries
+  pub heard : Hears tells e room.place room.list answer new
+
+module _ {A : Type 0} {core then : Core} {v w : View} {id node birth before : ℕ} {tells : List Object → A} {e : Listed → Entry} {room : Room} {answer : NodeAnswer A} {new : Listed} (c : IsCall core then v w id node birth before tells e room answer new) where
+  -- a list that has one entry more is ready to be stored
+  pub call_ready : before < length new.entries → IsRoomReady (shape_of then) w (record { place = room.place; list = new })
+  call_ready more = subst (λ (x : Core). IsRoomReady (shape_of x) w (record { place = room.place; list = new })) (sym c.table) (by answer c.heard) where
+    by : (a : NodeAnswer A) → Hears tells e room.place room.list a new → IsRoomReady (shape_of core) w (record { place = room.place; list = new })
+    by (answers.Told at told) h = tenant_ready _ _ _ _ _ _ room c.opened c.asked new (e room.list) at.entry c.mine h.2
+    by (answers.Worn (spent.List at entries items)) h = not_grown _ _ _ c.was h.1.same more
+    by (answers.Worn s) h = absurd h
+    by answers.Memory h = not_grown _ _ _ c.was h.same more
+
+  -- one that has not is as it was
+  pub call_untouched : length new.entries ≤ before → IsUntouched (shape_of then) w (record { place = room.place; list = new })
+  call_untouched left = subst (λ (x : Core). IsUntouched (shape_of x) w (record { place = room.place; list = new })) (sym c.table) (by answer c.heard) where
+    by : (a : NodeAnswer A) → Hears tells e room.place room.list a new → IsUntouched (shape_of core) w (record { place = room.place; list = new })
+    by (answers.Told at told) h = not_left _ _ _ _ _ c.was h.2 left
+    by (answers.Worn (spent.List at entries items)) h = tenant_untouched _ _ _ _ _ _ room c.opened c.asked new h.1.same
+    by (answers.Worn s) h = absurd h
+    by answers.Memory h = tenant_untouched _ _ _ _ _ _ room c.opened c.asked new h.same
+
+  -- and once the room was given back the call gives what it is to give
+  pub call_gives : (w' : View) → (before < length new.entries → w' ≡ with_kept w (place_number room.place) (last_entry new.entries) new.items) → (length new.entries ≤ before → w' ≡ with_given w (place_number room.place))
+      → TenantGives (shape_of core) v id node birth tells e answer w'
+  call_gives w' kept left = by answer c.heard where
+    by : (a : NodeAnswer A) → Hears tells e room.place room.list a new → TenantGives (shape_of core) v id node birth tells e a w'
+    by (answers.Told at told) h = subst (λ (p : Place). Acts (shape_of core) v w' id node birth (record { place = p; entry = at.entry }) (λ items. tells items ≡ told) e) (sym h.0)
+        (tenant_acts _ _ _ _ _ _ room c.opened c.asked new w' e at.entry (λ items. tells items ≡ told) c.mine h.1 h.2 (kept (grown _ _ _ _ _ c.was h.2)))
+    by (answers.Worn (spent.List at entries items)) h = subst (λ (p : Place). TenantIsWorn (shape_of core) v w' id node birth p e entries items) (sym h.0)
+        (tenant_worn _ _ _ _ _ _ room c.opened c.asked new w' e entries items h.1 (left (stayed _ _ _ c.was h.1.same)))
+    by (answers.Worn s) h = absurd h
+    by answers.Memory h = tenant_lacks _ _ _ _ _ _ room c.opened c.asked new w' e h (left (stayed _ _ _ c.was h.same))
+
 -- an unpinned object is dropped
 pub dropped : (birth : ℕ) (key : List ℕ) (items : List Object) (object : Object) → named_in birth key items ≡ Some object → object.pinned ≡ false → drop_kind_of (named_in birth key items) ≡ Dropped
 dropped birth key items object is free = ap drop_kind_of is ∙ ap (λ b. cond b Pinned Dropped) free
+
+-- a key that isn't held has no value
+pub no_value : (birth : ℕ) (key : List ℕ) (items : List Object) → holds birth key items ≡ false → option_map (λ (o : Object). o.value) (named_in birth key items) ≡ None
+no_value birth key items absent = by (named_in birth key items) (is_some_find (is_named birth key) items ∙ absent) where
+  by : (o : Option Object) → is_some o ≡ false → option_map (λ (y : Object). y.value) o ≡ None
+  by None is = refl
+  by (Some y) is = absurd (cc)
 
 -- an entry of a scan is plain
 pub scan_plain : (shape : Shape) (v : View) (k : ℕ) (e : Entry) (l : Listed) (worker walk : ℕ) (policy : Policy) (asked : ℕ) → e ≡ scan_entry l worker walk policy asked → v.claims.held ≡ Some (place_id k) → IsPlain shape v k e

@@ -1,5 +1,5 @@
 -- The names that the proofs of this crate cite most, passed on from one place. Declares nothing.
-pub use Rattle.std.proofs.Common.{Bool, List, [], ap, append_assoc, arith, cond, eq-eqb, eqb, eqb-true, false, get_or, get_or-set_other, get_or-set_same, inl, inr, length, length-append, lt-ltb, ltb, ne_eqb, refl, replicate, set, subst, suc, sym, take, true, zero, ℕ, ⊎_elim, ◌*◌, ◌++◌, ◌+◌, ◌-◌, ◌<◌, ◌∙◌, ◌∷◌, ◌≡◌, ◌≢◌, ◌≤◌, ◌⊎◌}
+pub use Rattle.std.proofs.Common.{Bool, List, [], ap, append_assoc, arith, cond, eq-eqb, eqb, eqb-true, false, get_or, get_or-set_other, get_or-set_same, inl, inr, length, length-append, lt-ltb, ltb, ne_eqb, not, refl, replicate, set, subst, suc, sym, take, true, zero, ℕ, ⊎_elim, ◌*◌, ◌++◌, ◌+◌, ◌-◌, ◌<◌, ◌∙◌, ◌∷◌, ◌≡◌, ◌≢◌, ◌≤◌, ◌⊎◌}
 pub use Rattle.std.proofs.lemmas.List.{append-nil, length-replicate, length-set}
 pub use Rattle.std.proofs.lemmas.List.Elements.{Contains-append_left, Contains-push}
 pub use Rattle.std.proofs.lemmas.List.Quantifiers.{all_pairs_push}
@@ -39,7 +39,8 @@ pub use Rattle.shr_seats.specs.Shapes.{groups_in}
 pub use Rattle.shr_seats.specs.Views.{Each}
 pub use Rattle.shr_seats.specs.Weights.{Begins, times, total, without}
 pub use Rattle.shr_seats.specs.declared.shape.Shape.{Shape}
-pub use Rattle.shr_node.specs.Answers.{Acts, AddGives, DropGives, HadRoom, LackedRoom, IsScanClosed, LookGives, PinGives, ScanGives, ScanIsWorn, ScanLacks, ScansPlace, TenantIsWorn, TenantLacks}
+pub use Rattle.shr_node.specs.Answers.{Acts, HadRoom, LackedRoom, IsScanClosed, ScanGives, ScanIsWorn, ScanLacks, ScansPlace, TenantGives, TenantIsWorn, TenantLacks}
+pub use Rattle.shr_node.specs.declared.answers.NodeAnswer.{NodeAnswer}
 pub use Rattle.shr_node.specs.Draining.{AreDraws, DrainWorn, Draw, DrawsNone, EmptiesOne, IsDraw, IsListDrawn, IsFilled, LeavesOne, StopsAt, drawn, made_by_draws}
 pub use Rattle.shr_node.specs.Gains.{Gains, IsKnownClosed, Knows, KnowsClosed, bits_for, is_raised, with_kept, with_raised}
 pub use Rattle.shr_node.specs.Looking.{AreLooked, IsLookedAt, IsMarked}

@@ -1,13 +1,13 @@
 -- What the calls on one list answer, and what their seat gains. An entry and what is so of a list
 -- are functions of the list as it was in hand.
-use Rattle.std.specs.Prelude.{◌≡◌, ℕ, Bool, true, false, Some, List, [], ◌∷◌, ◌++◌, length, option_map}
+use Rattle.std.specs.Prelude.{◌≡◌, ℕ, Bool, not, Option, List, [], ◌∷◌, ◌++◌, length, option_map}
 use Rattle.shr_base.specs.declared.objects.Object.{Object}
 use Rattle.shr_base.specs.declared.objects.Policy.{Policy}
 use Rattle.shr_base.specs.declared.places.At.{At}
 use Rattle.shr_base.specs.declared.places.Place.{Place}
 use Rattle.shr_base.specs.declared.places.Serial.{Serial}
 use Rattle.shr_base.specs.declared.journals.Entry.{Entry}
-use Rattle.shr_base.specs.declared.journals.DropKind.TheVariants as kind
+use Rattle.shr_base.specs.declared.journals.DropKind.{DropKind}
 use Rattle.shr_base.specs.declared.replies.Spent.{Spent}
 use Rattle.shr_base.specs.declared.replies.Spent.TheVariants as spent
 use Rattle.shr_model.specs.Places.{place_number}
@@ -19,14 +19,8 @@ use Rattle.shr_core.specs.declared.view.View.{View}
 use Rattle.shr_seats.specs.declared.shape.Shape.{Shape}
 use Rattle.shr_core.specs.Rule.{AreBorn}
 use Rattle.shr_seats.specs.Shapes.{groups_in}
-use Rattle.shr_node.specs.declared.answers.NodeAdd.{NodeAdd}
-use Rattle.shr_node.specs.declared.answers.NodeAdd.TheVariants as add
-use Rattle.shr_node.specs.declared.answers.NodeLook.{NodeLook}
-use Rattle.shr_node.specs.declared.answers.NodeLook.TheVariants as look
-use Rattle.shr_node.specs.declared.answers.NodeDrop.{NodeDrop}
-use Rattle.shr_node.specs.declared.answers.NodeDrop.TheVariants as drop
-use Rattle.shr_node.specs.declared.answers.NodePin.{NodePin}
-use Rattle.shr_node.specs.declared.answers.NodePin.TheVariants as pin
+use Rattle.shr_node.specs.declared.answers.NodeAnswer.{NodeAnswer}
+use Rattle.shr_node.specs.declared.answers.NodeAnswer.TheVariants as answer
 use Rattle.shr_node.specs.declared.answers.NodeScan.{NodeScan}
 use Rattle.shr_node.specs.declared.answers.NodeScan.TheVariants as scan
 use Rattle.shr_node.specs.Gains.{Gains, Knows, KnowsClosed, bits_for}
@@ -79,34 +73,27 @@ pub record TenantLacks (shape : Shape) (v w : View) (id node birth : ℕ) (e : L
   pub first : IsFirstOpen shape w id node birth place
   pub free : HadRoom shape v w (place_number place) old (e old)
 
--- what `add` answers
-abbrev pub AddGives : Shape → View → ℕ → ℕ → Object → NodeAdd → View → Type 0
-AddGives shape v id node o (add.Added at) w = Acts shape v w id node o.birth at (λ items. holds o.birth o.key items ≡ false) (λ old. add_entry old o)
-AddGives shape v id node o (add.Exists at) w = Acts shape v w id node o.birth at (λ items. holds o.birth o.key items ≡ true) (λ old. add_entry old o)
-AddGives shape v id node o (add.Worn s) w = TenantWorn shape v w id node o.birth (λ old. add_entry old o) s
-AddGives shape v id node o add.Memory w = TenantLacks shape v w id node o.birth (λ old. add_entry old o)
+-- What a tenant's call answers that makes this entry of a list, and tells this of its objects
+abbrev pub TenantGives : {A : Type 0} → Shape → View → ℕ → ℕ → ℕ → (List Object → A) → (Listed → Entry) → NodeAnswer A → View → Type 0
+TenantGives shape v id node birth tells e (answer.Told at told) w = Acts shape v w id node birth at (λ items. tells items ≡ told) e
+TenantGives shape v id node birth tells e (answer.Worn s) w = TenantWorn shape v w id node birth e s
+TenantGives shape v id node birth tells e answer.Memory w = TenantLacks shape v w id node birth e
 
--- what `look` answers
-abbrev pub LookGives : Shape → View → ℕ → ℕ → Serial → ℕ → List ℕ → NodeLook → View → Type 0
-LookGives shape v id node by birth key (look.Hit at value) w = Acts shape v w id node birth at (λ items. option_map (λ o. o.value) (named_in birth key items) ≡ Some value) (λ old. look_entry old by birth key)
-LookGives shape v id node by birth key (look.Miss at) w = Acts shape v w id node birth at (λ items. holds birth key items ≡ false) (λ old. look_entry old by birth key)
-LookGives shape v id node by birth key (look.Worn s) w = TenantWorn shape v w id node birth (λ old. look_entry old by birth key) s
-LookGives shape v id node by birth key look.Memory w = TenantLacks shape v w id node birth (λ old. look_entry old by birth key)
+-- what `add` answers: whether the object was added
+abbrev pub AddGives : Shape → View → ℕ → ℕ → Object → NodeAnswer Bool → View → Type 0
+AddGives shape v id node o = TenantGives shape v id node o.birth (λ items. not (holds o.birth o.key items)) (λ old. add_entry old o)
 
--- what `drop_key` answers
-abbrev pub DropGives : Shape → View → ℕ → ℕ → Serial → ℕ → List ℕ → NodeDrop → View → Type 0
-DropGives shape v id node by birth key (drop.Dropped at) w = Acts shape v w id node birth at (λ items. drop_kind_of (named_in birth key items) ≡ kind.Dropped) (λ old. drop_entry old by birth key)
-DropGives shape v id node by birth key (drop.Pinned at) w = Acts shape v w id node birth at (λ items. drop_kind_of (named_in birth key items) ≡ kind.Pinned) (λ old. drop_entry old by birth key)
-DropGives shape v id node by birth key (drop.Miss at) w = Acts shape v w id node birth at (λ items. drop_kind_of (named_in birth key items) ≡ kind.Miss) (λ old. drop_entry old by birth key)
-DropGives shape v id node by birth key (drop.Worn s) w = TenantWorn shape v w id node birth (λ old. drop_entry old by birth key) s
-DropGives shape v id node by birth key drop.Memory w = TenantLacks shape v w id node birth (λ old. drop_entry old by birth key)
+-- what `look` answers: the object's value
+abbrev pub LookGives : Shape → View → ℕ → ℕ → Serial → ℕ → List ℕ → NodeAnswer (Option (List ℕ)) → View → Type 0
+LookGives shape v id node by birth key = TenantGives shape v id node birth (λ items. option_map (λ o. o.value) (named_in birth key items)) (λ old. look_entry old by birth key)
 
--- what `set_pin` answers
-abbrev pub PinGives : Shape → View → ℕ → ℕ → Serial → ℕ → List ℕ → Bool → NodePin → View → Type 0
-PinGives shape v id node by birth key pinned (pin.Done at) w = Acts shape v w id node birth at (λ items. holds birth key items ≡ true) (λ old. pin_entry old by birth key pinned)
-PinGives shape v id node by birth key pinned (pin.Miss at) w = Acts shape v w id node birth at (λ items. holds birth key items ≡ false) (λ old. pin_entry old by birth key pinned)
-PinGives shape v id node by birth key pinned (pin.Worn s) w = TenantWorn shape v w id node birth (λ old. pin_entry old by birth key pinned) s
-PinGives shape v id node by birth key pinned pin.Memory w = TenantLacks shape v w id node birth (λ old. pin_entry old by birth key pinned)
+-- what `drop_key` answers: what the drop did
+abbrev pub DropGives : Shape → View → ℕ → ℕ → Serial → ℕ → List ℕ → NodeAnswer DropKind → View → Type 0
+DropGives shape v id node by birth key = TenantGives shape v id node birth (λ items. drop_kind_of (named_in birth key items)) (λ old. drop_entry old by birth key)
+
+-- what `set_pin` answers: whether the object is there
+abbrev pub PinGives : Shape → View → ℕ → ℕ → Serial → ℕ → List ℕ → Bool → NodeAnswer Bool → View → Type 0
+PinGives shape v id node by birth key pinned = TenantGives shape v id node birth (λ items. holds birth key items) (λ old. pin_entry old by birth key pinned)
 
 -- a scan made its entry at the end of its place's journal, which had room for it, and freed these
 -- objects

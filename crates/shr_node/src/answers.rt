@@ -4,63 +4,16 @@ use shr_base::log::Log;
 use shr_base::objects::Object;
 use shr_base::places::At;
 use shr_base::replies::Spent;
-use shr_base::text::Text;
 
-/// What `add` answers.
+/// What a tenant's call answers: `add`, `look`, `drop_key` or `set_pin`.
 ///
-/// Linux: `list_lru_add` in mm/list_lru.c answers true or false. `Worn` and `Memory` are our own.
-#[derive(Clone, Copy, Debug, PartialEq, Eq)]
-pub enum NodeAdd {
-    /// The object stands at the tail of the list where this entry is.
-    Added { at: At },
-    /// An object of its birth group and key is in the list where this entry is, and nothing was
-    /// added.
-    Exists { at: At },
-    /// The list would pass its greatest number of entries or objects.
-    Worn { spent: Spent },
-    /// There was no memory.
-    Memory,
-}
-
-/// What `look` answers. Our own.
+/// Linux: `list_lru_add` and `list_lru_del` in mm/list_lru.c answer true or false. `Worn` and
+/// `Memory` are our own.
 #[derive(Drop)]
-pub enum NodeLook {
-    /// The object is there, is marked now, and has this value.
-    Hit { at: At, value: Text },
-    /// No object of this birth group and key is there.
-    Miss { at: At },
-    /// The list would pass its greatest number of entries.
-    Worn { spent: Spent },
-    /// There was no memory.
-    Memory,
-}
-
-/// What `drop_key` answers.
-///
-/// Linux: `list_lru_del` in mm/list_lru.c answers true or false. All but `Dropped` and `Miss` are
-/// our own.
-#[derive(Clone, Copy, Debug, PartialEq, Eq)]
-pub enum NodeDrop {
-    /// The object was there, unpinned, and was taken out.
-    Dropped { at: At },
-    /// The object is there and pinned, and stays.
-    Pinned { at: At },
-    /// No object of this birth group and key is there.
-    Miss { at: At },
-    /// The list would pass its greatest number of entries.
-    Worn { spent: Spent },
-    /// There was no memory.
-    Memory,
-}
-
-/// What `set_pin` answers. Our own.
-#[derive(Clone, Copy, Debug, PartialEq, Eq)]
-pub enum NodePin {
-    /// The object is there and has the pin that was asked for, even if it had it before.
-    Done { at: At },
-    /// No object of this birth group and key is there.
-    Miss { at: At },
-    /// The list would pass its greatest number of entries.
+pub enum NodeAnswer<T> {
+    /// The call's entry is here, and this is what the list told of it.
+    Told { at: At, told: T },
+    /// The list would pass its greatest number of entries or objects.
     Worn { spent: Spent },
     /// There was no memory.
     Memory,

@@ -7,12 +7,15 @@ ghost use Rattle.std.specs.Prelude.{◌≡◌, ◌<◌, Some};
 ghost use Rattle.shr_core.specs.Parts.{no_rooms};
 ghost use Rattle.shr_seats.specs.Shapes.{groups_in};
 ghost use Rattle.shr_core.specs.Seats.{view_of, shape_of};
+ghost use Rattle.shr_base.specs.declared.replies.Spent.TheVariants as spent;
+ghost use Rattle.shr_node.specs.declared.answers.NodeAnswer.TheVariants as answers;
 ghost use Rattle.shr_node.specs.Answers.{AddGives, LookGives, DropGives, PinGives};
 
-use crate::answers::{NodeAdd, NodeDrop, NodeLook, NodePin};
+use crate::answers::NodeAnswer;
 use crate::rooms::{before_call, give_back, list_spent, open_room};
+use shr_base::journals::DropKind;
 use shr_base::objects::Object;
-use shr_base::places::{At, Serial};
+use shr_base::places::{At, Place, Serial};
 use shr_base::text::Text;
 use shr_core::seat::Seat;
 use shr_list::answers::{AddAnswer, DropAnswer, LookAnswer, PinAnswer};
@@ -28,15 +31,40 @@ pub struct TenantCall {
     pub birth: u16,
 }
 
+// What the list of a place told with an entry.
+fn told<T>(place: Place, entry: u32, told: T) -> NodeAnswer<T>
+    ensures { result ≡ answers.Told (record { place = place; entry = entry }) told }
+{
+    NodeAnswer::Told {
+        at: At { place, entry },
+        told,
+    }
+}
+
+// The list of a place has no room: it would have had these numbers.
+fn worn<T>(place: Place, entries: u32, items: u32) -> NodeAnswer<T>
+    ensures { result ≡ answers.Worn (spent.List place entries items) }
+{
+    NodeAnswer::Worn {
+        spent: list_spent(place, entries, items),
+    }
+}
+
 /// Adds an object at the tail, unmarked and unpinned, if the list has none of its birth group and
-/// key. The seat holds the id, and has no room in hand.
+/// key, and tells whether it had none. The seat holds the id, and has no room in hand.
 ///
 /// The bit of a place below the root that held no object is set while its room is held. On `Worn`
 /// and `Memory` lists, counts and bits are as this seat found them.
 ///
 /// Linux: `list_lru_add` in mm/list_lru.c, which sets the bit of the group that it was handed, even
 /// when the object goes to the list of a group above.
-pub fn add<R: Wait>(rt: &R, seat: &mut Seat<'_>, id: u16, node: u8, object: Object) -> NodeAdd
+pub fn add<R: Wait>(
+    rt: &R,
+    seat: &mut Seat<'_>,
+    id: u16,
+    node: u8,
+    object: Object,
+) -> NodeAnswer<bool>
     requires rooms { (view_of seat.old).holding ≡ no_rooms }
     requires holds { (view_of seat.old).claims.held ≡ Some id }
     requires place { (id < (shape_of seat.old.core).ids) × (node < (shape_of seat.old.core).nodes)
@@ -49,27 +77,27 @@ pub fn add<R: Wait>(rt: &R, seat: &mut Seat<'_>, id: u16, node: u8, object: Obje
     let place = room.place;
     let before = before_call(&room.list);
     let answer = match room.list.add(object) {
-        AddAnswer::Added { entry } => NodeAdd::Added {
-            at: At { place, entry },
-        },
-        AddAnswer::Exists { entry } => NodeAdd::Exists {
-            at: At { place, entry },
-        },
+        AddAnswer::Added { entry } => told(place, entry, true),
+        AddAnswer::Exists { entry } => told(place, entry, false),
         AddAnswer::Closed => unreachable!(),
-        AddAnswer::Worn { entries, items } => NodeAdd::Worn {
-            spent: list_spent(place, entries, items),
-        },
-        AddAnswer::Memory { object: _ } => NodeAdd::Memory,
+        AddAnswer::Worn { entries, items } => worn(place, entries, items),
+        AddAnswer::Memory { object: _ } => NodeAnswer::Memory,
     };
     give_back(seat, room, before);
     answer
 }
 
-/// Looks an object up, marks it and gives its value. The seat holds the id, and has no room in
-/// hand. On `Worn` and `Memory` lists, counts and bits are as this seat found them.
+/// Looks an object up, marks it and tells its value, or none if the list has no object of this birth
+/// group and key. The seat holds the id, and has no room in hand. On `Worn` and `Memory` lists,
+/// counts and bits are as this seat found them.
 ///
 /// Our own: Linux's lists have no keys.
-pub fn look<R: Wait>(rt: &R, seat: &mut Seat<'_>, call: TenantCall, key: &Text) -> NodeLook
+pub fn look<R: Wait>(
+    rt: &R,
+    seat: &mut Seat<'_>,
+    call: TenantCall,
+    key: &Text,
+) -> NodeAnswer<Option<Text>>
     requires rooms { (view_of seat.old).holding ≡ no_rooms }
     requires holds { (view_of seat.old).claims.held ≡ Some call.id }
     requires place { (call.id < (shape_of seat.old.core).ids) × (call.node < (shape_of seat.old.core).nodes)
@@ -82,28 +110,27 @@ pub fn look<R: Wait>(rt: &R, seat: &mut Seat<'_>, call: TenantCall, key: &Text) 
     let place = room.place;
     let before = before_call(&room.list);
     let answer = match room.list.look(call.by, call.birth, key) {
-        LookAnswer::Hit { entry, value } => NodeLook::Hit {
-            at: At { place, entry },
-            value,
-        },
-        LookAnswer::Miss { entry } => NodeLook::Miss {
-            at: At { place, entry },
-        },
+        LookAnswer::Hit { entry, value } => told(place, entry, Some(value)),
+        LookAnswer::Miss { entry } => told(place, entry, None),
         LookAnswer::Closed => unreachable!(),
-        LookAnswer::Worn { entries, items } => NodeLook::Worn {
-            spent: list_spent(place, entries, items),
-        },
-        LookAnswer::Memory => NodeLook::Memory,
+        LookAnswer::Worn { entries, items } => worn(place, entries, items),
+        LookAnswer::Memory => NodeAnswer::Memory,
     };
     give_back(seat, room, before);
     answer
 }
 
-/// Takes an object out if it is there and not pinned. The seat holds the id, and has no room in
-/// hand. On `Worn` and `Memory` lists, counts and bits are as this seat found them.
+/// Takes an object out if it is there and not pinned, and tells which of the three cases it was. The
+/// seat holds the id, and has no room in hand. On `Worn` and `Memory` lists, counts and bits are as
+/// this seat found them.
 ///
 /// Linux: `list_lru_del` in mm/list_lru.c, which is handed the object and knows no pin.
-pub fn drop_key<R: Wait>(rt: &R, seat: &mut Seat<'_>, call: TenantCall, key: &Text) -> NodeDrop
+pub fn drop_key<R: Wait>(
+    rt: &R,
+    seat: &mut Seat<'_>,
+    call: TenantCall,
+    key: &Text,
+) -> NodeAnswer<DropKind>
     requires rooms { (view_of seat.old).holding ≡ no_rooms }
     requires holds { (view_of seat.old).claims.held ≡ Some call.id }
     requires place { (call.id < (shape_of seat.old.core).ids) × (call.node < (shape_of seat.old.core).nodes)
@@ -116,27 +143,20 @@ pub fn drop_key<R: Wait>(rt: &R, seat: &mut Seat<'_>, call: TenantCall, key: &Te
     let place = room.place;
     let before = before_call(&room.list);
     let answer = match room.list.drop_key(call.by, call.birth, key) {
-        DropAnswer::Dropped { entry, object: _ } => NodeDrop::Dropped {
-            at: At { place, entry },
-        },
-        DropAnswer::Pinned { entry } => NodeDrop::Pinned {
-            at: At { place, entry },
-        },
-        DropAnswer::Miss { entry } => NodeDrop::Miss {
-            at: At { place, entry },
-        },
+        DropAnswer::Dropped { entry, object: _ } => told(place, entry, DropKind::Dropped),
+        DropAnswer::Pinned { entry } => told(place, entry, DropKind::Pinned),
+        DropAnswer::Miss { entry } => told(place, entry, DropKind::Miss),
         DropAnswer::Closed => unreachable!(),
-        DropAnswer::Worn { entries, items } => NodeDrop::Worn {
-            spent: list_spent(place, entries, items),
-        },
-        DropAnswer::Memory => NodeDrop::Memory,
+        DropAnswer::Worn { entries, items } => worn(place, entries, items),
+        DropAnswer::Memory => NodeAnswer::Memory,
     };
     give_back(seat, room, before);
     answer
 }
 
-/// Pins an object, or takes its pin away. The seat holds the id, and has no room in hand. On `Worn`
-/// and `Memory` lists, counts and bits are as this seat found them.
+/// Pins an object, or takes its pin away, and tells whether it is there; it may have had the pin
+/// before. The seat holds the id, and has no room in hand. On `Worn` and `Memory` lists, counts and
+/// bits are as this seat found them.
 ///
 /// Our own: a pin stands for a raised reference count.
 pub fn set_pin<R: Wait>(
@@ -145,7 +165,7 @@ pub fn set_pin<R: Wait>(
     call: TenantCall,
     key: &Text,
     pinned: bool,
-) -> NodePin
+) -> NodeAnswer<bool>
     requires rooms { (view_of seat.old).holding ≡ no_rooms }
     requires holds { (view_of seat.old).claims.held ≡ Some call.id }
     requires place { (call.id < (shape_of seat.old.core).ids) × (call.node < (shape_of seat.old.core).nodes)
@@ -158,17 +178,11 @@ pub fn set_pin<R: Wait>(
     let place = room.place;
     let before = before_call(&room.list);
     let answer = match room.list.set_pin(call.by, call.birth, key, pinned) {
-        PinAnswer::Done { entry } => NodePin::Done {
-            at: At { place, entry },
-        },
-        PinAnswer::Miss { entry } => NodePin::Miss {
-            at: At { place, entry },
-        },
+        PinAnswer::Done { entry } => told(place, entry, true),
+        PinAnswer::Miss { entry } => told(place, entry, false),
         PinAnswer::Closed => unreachable!(),
-        PinAnswer::Worn { entries, items } => NodePin::Worn {
-            spent: list_spent(place, entries, items),
-        },
-        PinAnswer::Memory => NodePin::Memory,
+        PinAnswer::Worn { entries, items } => worn(place, entries, items),
+        PinAnswer::Memory => NodeAnswer::Memory,
     };
     give_back(seat, room, before);
     answer
