@@ -9,6 +9,7 @@ pub mod ReadLines
 pub mod WellFormed
 pub mod Numbers
 pub mod Printing
+pub mod Body
 pub mod Same
 pub mod Parts
 pub mod Causes

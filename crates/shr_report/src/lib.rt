@@ -2,6 +2,7 @@
 #![tactic(auto)]
 
 mod answers;
+pub mod between;
 mod counters;
 mod entries;
 mod lines;

@@ -1,59 +1,41 @@
-//! Who prints the long sections of a report.
+//! Who prints the body of a report.
 
 ghost use Rattle.std.specs.Prelude.{flat_map};
 ghost use Rattle.shr_outside.specs.Paper.{Prints};
 ghost use Rattle.std.specs.List.{AllByRecursion};
-ghost use Rattle.shr_report.specs.Lines.{numbered};
-ghost use Rattle.shr_report.specs.Numbers.{IsListNumbered, IsPartNumbered, IsUseNumbered, ArePartsWell};
-ghost use Rattle.shr_report.specs.Text.{worker_lines, place_lines, use_line};
+ghost use Rattle.shr_report.specs.Body.{body_lines, IsBodyNumbered};
+ghost use Rattle.shr_report.specs.Numbers.{IsListNumbered};
+ghost use Rattle.shr_report.specs.Text.{place_lines};
 
+use crate::between::put_between;
 use crate::entries::place;
 use crate::piece::Piece;
+use crate::report::Report;
 use crate::uses::put_uses;
 use crate::workers::put_workers;
-use shr_base::ends::{PlaceEnd, WorkerPart};
-use shr_base::journals::UseStep;
+use shr_base::ends::PlaceEnd;
 use shr_outside::outside::Sink;
 use shr_outside::paper::Paper;
 
-/// Who prints the three long sections of a report. All print the same text; one that has threads may
-/// print the parts of a section side by side. Our own.
+/// Who prints the body of a report: all from the workers' parts to the operations. All print the same
+/// text; one that has threads may print parts of it side by side. Our own.
 pub trait Printer {
-    /// The parts of the workers, numbered from 0.
-    fn workers<K: Sink>(&self, out: &mut Paper<K>, parts: &[WorkerPart])
-        ensures printed { Prints K.written K.faults out.old out.new
-            (numbered worker_lines 0 parts.now) }
-        ensures numbers { ArePartsWell parts.now
-            → AllByRecursion IsPartNumbered parts.now };
-
-    /// The lists.
-    fn places<K: Sink>(&self, out: &mut Paper<K>, ends: &[PlaceEnd])
-        ensures printed { Prints K.written K.faults out.old out.new
-            (flat_map place_lines ends.now) }
-        ensures numbers { AllByRecursion IsListNumbered ends.now };
-
-    /// The operations on groups' usages.
-    fn uses<K: Sink>(&self, out: &mut Paper<K>, steps: &[UseStep])
-        ensures printed { Prints K.written K.faults out.old out.new
-            (flat_map use_line steps.now) }
-        ensures numbers { AllByRecursion IsUseNumbered steps.now };
+    /// Prints the body.
+    fn body<K: Sink>(&self, out: &mut Paper<K>, report: &Report)
+        ensures printed { Prints K.written K.faults out.old out.new (body_lines report.now) }
+        ensures numbers { IsBodyNumbered report.now };
 }
 
-/// Prints each section from its first line to its last. Our own.
+/// Prints a body from its first line to its last. Our own.
 #[derive(Clone, Copy)]
 pub struct Alone;
 
 impl Printer for Alone {
-    fn workers<K: Sink>(&self, out: &mut Paper<K>, parts: &[WorkerPart]) {
-        put_workers(out, parts)
-    }
-
-    fn places<K: Sink>(&self, out: &mut Paper<K>, ends: &[PlaceEnd]) {
-        put_places(out, ends)
-    }
-
-    fn uses<K: Sink>(&self, out: &mut Paper<K>, steps: &[UseStep]) {
-        put_uses(out, steps)
+    fn body<K: Sink>(&self, out: &mut Paper<K>, report: &Report) {
+        put_workers(out, report.workers.as_slice());
+        put_places(out, report.places.as_slice());
+        put_between(out, report);
+        put_uses(out, report.uses.as_slice())
     }
 }
 

@@ -1,22 +1,19 @@
 //! The text of a report.
 
-ghost use Rattle.std.specs.Prelude.{◌≡◌, ◌≤◌, ◌++◌, ◌^◌, ◌⊎◌, IfOk, OnOk, OnErr, ◌∷◌, [], drop, flat_map, sum_by, length};
+ghost use Rattle.std.specs.Prelude.{◌≡◌, ◌≤◌, ◌^◌, ◌⊎◌, IfOk, OnOk, OnErr, ◌∷◌, [], sum_by, length};
 ghost use Rattle.shr_outside.specs.Paper.{Prints, IsLeft};
 ghost use Rattle.shr_outside.specs.Writing.{Writes};
-ghost use Rattle.shr_report.specs.Lines.{line, spaced, numbered, numeral};
-ghost use Rattle.std.specs.List.{AllByRecursion};
-ghost use Rattle.shr_report.specs.Numbers.{IsMapNumbered, IsUseNumbered, HasNumbers};
+ghost use Rattle.shr_report.specs.Lines.{line, numbered, numeral};
+ghost use Rattle.shr_report.specs.Numbers.{HasNumbers};
 ghost use Rattle.shr_report.specs.Same.{Determines};
 ghost use Rattle.shr_report.specs.WellFormed.{IsWellFormed};
-ghost use Rattle.shr_report.specs.Text.{pool_entry_line, tree_line, bits_words, bit_line, deferred_line, use_line, lookups_line, head_lines, journal_lines, table_lines, end_lines, reply_count, walk_count, text};
+ghost use Rattle.shr_report.specs.Text.{pool_entry_line, tree_line, lookups_line, head_lines, journal_lines, end_lines, reply_count, walk_count, text};
 
 use crate::lines::Word::{Number, Text as Bytes};
 use crate::lines::{put_amount, put_line};
-use crate::piece::Piece;
 use crate::printers::{Alone, Printer};
 use crate::report::Report;
-use crate::units::{pool_ends, pool_words};
-use shr_base::ends::{MapEnd, PlaceAmount, WorkerPart};
+use shr_base::ends::WorkerPart;
 use shr_base::journals::{PoolEntry, TreeEntry};
 use shr_base::memory::Memory;
 use shr_base::text::Text;
@@ -105,55 +102,6 @@ fn tree<K: Sink>(out: &mut Paper<K>, entries: &[TreeEntry])
     }
 }
 
-// The last words of a bit word's line: version 1 has no unit.
-#[inline(always)]
-fn end_with_bits(piece: &mut Piece, version: u8, map: &MapEnd) -> usize
-    ensures text { drop result piece.new ≡ spaced (bits_words version map.now) ++ 10 ∷ [] }
-    ensures start { (450 ≤ result) × (result ≤ 512) }
-{
-    let start = piece.line_end();
-    let start = piece.hex(start, map.bits);
-    if version == 1 {
-        start
-    } else {
-        piece.number(start, map.unit as u64)
-    }
-}
-
-// The line of a bit word.
-fn bit<K: Sink>(out: &mut Paper<K>, piece: &mut Piece, version: u8, map: &MapEnd)
-    ensures printed { Prints K.written K.faults out.old out.new (bit_line version map.now) }
-    ensures numbers { IsMapNumbered map.now }
-{
-    // What is read is known to be in its range; the line of version 1 has no unit.
-    let _unit = map.unit;
-    let _bits = map.bits;
-    let start = end_with_bits(piece, version, map);
-    let start = piece.number(start, map.group as u64);
-    let start = piece.number(start, map.node as u64);
-    let start = piece.exactly(start, b"bit");
-    piece.put(start, out)
-}
-
-fn bits<K: Sink>(out: &mut Paper<K>, version: u8, maps: &[MapEnd])
-    ensures printed { Prints K.written K.faults out.old out.new
-        (flat_map (bit_line version) maps.now) }
-    ensures numbers { AllByRecursion IsMapNumbered maps.now }
-{
-    let mut piece = Piece::new();
-    for map in maps {
-        bit(out, &mut piece, version, map);
-    }
-}
-
-fn deferred<K: Sink>(out: &mut Paper<K>, words: &[PlaceAmount])
-    ensures { Prints K.written K.faults out.old out.new (flat_map deferred_line words.now) }
-{
-    for word in words {
-        put_amount(out, b"deferred", word.place, word.amount);
-    }
-}
-
 fn lookups<K: Sink>(out: &mut Paper<K>, numbers: &[u32])
     ensures { Prints K.written K.faults out.old out.new (numbered lookups_line 0 numbers.now) }
 {
@@ -181,18 +129,6 @@ fn journals<K: Sink>(out: &mut Paper<K>, report: &Report)
 {
     pool(out, report.pool.as_slice());
     tree(out, report.tree.as_slice())
-}
-
-fn tables<K: Sink, P: Printer>(out: &mut Paper<K>, report: &Report, printer: &P)
-    ensures printed { Prints K.written K.faults out.old out.new (table_lines report.now) }
-    ensures maps { AllByRecursion IsMapNumbered report.now.maps.items }
-    ensures uses { AllByRecursion IsUseNumbered report.now.uses.items }
-{
-    bits(out, report.version, report.maps.as_slice());
-    deferred(out, report.deferred.as_slice());
-    pool_words(out, report.pool_deferred.as_slice());
-    printer.uses(out, report.uses.as_slice());
-    lookups(out, report.lookups.as_slice())
 }
 
 // The number of all answers. A number that no machine has memory for is want of memory.
@@ -254,10 +190,8 @@ fn lines<K: Sink, P: Printer>(
 {
     head(out, report);
     journals(out, report);
-    printer.workers(out, report.workers.as_slice());
-    printer.places(out, report.places.as_slice());
-    pool_ends(out, report.units.as_slice());
-    tables(out, report, printer);
+    printer.body(out, report);
+    lookups(out, report.lookups.as_slice());
     end(out, report, replies, walks)
 }
 
@@ -286,8 +220,8 @@ fn print_on<K: Sink, P: Printer>(
     out.finish()
 }
 
-/// Prints a report to a sink, its long sections by this printer, and tells whether the sink has got all of
-/// it, or failed and has a front of it. The sink gets the text a page at a time. Our own.
+/// Prints a report to a sink, its body by this printer, and tells whether the sink has got all of it, or
+/// failed and has a front of it. The sink gets the text a page at a time. Our own.
 ///
 /// `Memory` comes where a report has more answers or walks than 64 bits count, and then nothing was
 /// printed. The bytes of a well formed report determine it, and its numbers have the ranges of their

@@ -1,5 +1,5 @@
 use Rattle.shr_report.proofs.Common.{take, flat_map, AllByRecursion, Prints, IsMapNumbered, bit_line}
-use Rattle.shr_report.proofs.text.bits.Given as goal
+use Rattle.shr_report.proofs.between.bits.Given as goal
 
 abbrev pub invariant-loop-map : goal.invariant-loop-map
 invariant-loop-map g l = record {
