@@ -23,8 +23,8 @@ use std::alloc::Global;
 use std::marker::Model;
 use std::mem::swap;
 
-// A journal of fewer entries grows by one, since most lists take one or two.
-const FEW: usize = 4;
+// A journal begins with room for so many entries, since most lists take one or two.
+const FIRST_ENTRIES: usize = 2;
 
 // What is in the box.
 #[derive(Drop)]
@@ -86,9 +86,8 @@ impl Contents {
         ensures { self.new ≡ self.old }
     {
         if self.inside.is_none() {
-            // Room for one: most lists take few entries.
             let inside = Inside {
-                entries: Log::from_vec(Vec::with_capacity(self.alloc, 1)?),
+                entries: Log::from_vec(Vec::with_capacity(self.alloc, FIRST_ENTRIES)?),
                 queue: Queue::new(self.alloc),
                 closed: false,
             };
@@ -108,7 +107,6 @@ impl Contents {
         self.make()?;
         match &mut self.inside {
             None => Err(Memory),
-            Some(inside) if inside.entries.len() < FEW => inside.entries.reserve_exact(1),
             Some(inside) => inside.entries.reserve(1),
         }
     }
