@@ -1,12 +1,12 @@
 -- What closing the lists of a subtree makes.
-use Rattle.std.specs.Prelude.{◌≡◌, ℕ, ◌+◌, ◌<◌, ◌≤◌, List, [], ◌∷◌, ◌++◌, length, cond, ◌==◌, ◌&&◌, nat_lt, AllPairs, Contains}
+use Rattle.std.specs.Prelude.{◌≡◌, ℕ, ◌+◌, ◌<◌, ◌≤◌, List, [], ◌∷◌, ◌++◌, length, cond, ◌==◌, ◌&&◌, true, nat_lt, slice_index, AllPairs, Contains}
 use Rattle.shr_base.specs.declared.objects.Object.{Object}
 use Rattle.shr_base.specs.declared.places.Place.{Place}
 use Rattle.shr_base.specs.declared.journals.Entry.TheVariants.{MovedIn, Closed}
 use Rattle.shr_base.specs.declared.replies.Spent.{Spent}
 use Rattle.shr_base.specs.declared.replies.Spent.TheVariants as spent
 use Rattle.shr_model.specs.Places.{place_number}
-use Rattle.shr_model.specs.Groups.{parent_of, IsAtOrAbove}
+use Rattle.shr_model.specs.Groups.{is_child, parent_of, IsAtOrAbove}
 use Rattle.shr_list.specs.Listed.{Listed}
 use Rattle.shr_model.specs.Families.{moved_in}
 use Rattle.shr_list.specs.Answers.{HasRoom, IsWorn, moved_entry}
@@ -18,6 +18,7 @@ use Rattle.shr_seats.specs.Shapes.{groups_in}
 use Rattle.shr_core.specs.Steps.{IsCounted}
 use Rattle.shr_node.specs.declared.answers.SpliceAnswer.{SpliceAnswer}
 use Rattle.shr_node.specs.declared.answers.SpliceAnswer.TheVariants as splice
+use Rattle.shr_node.specs.declared.splicing.Children.{Children}
 use Rattle.shr_node.specs.Gains.{Gains, KnowsClosed, IsKnownClosed}
 use Rattle.shr_node.specs.Opening.{WasMet}
 
@@ -29,6 +30,13 @@ pub record Closing : Type 0 where
   pub items : List Object
   pub above_number : ℕ
   pub above_items : List Object
+
+-- the first so many numbers are those of a group's children: each is that of a child, and each child
+-- is among them
+pub record AreChildren (parents : List ℕ) (group : ℕ) (c : Children) : Type 0 where
+  pub few : c.count ≤ length c.groups
+  pub each : (i : ℕ) → i < c.count → is_child parents group (slice_index c.groups i) ≡ true
+  pub all : (child : ℕ) → is_child parents group child ≡ true → (i : ℕ) × (i < c.count) × (slice_index c.groups i ≡ child)
 
 -- the place of a group at an id and node
 abbrev pub group_place : ℕ → ℕ → ℕ → Place

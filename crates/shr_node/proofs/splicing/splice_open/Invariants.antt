@@ -1,6 +1,6 @@
 use Rattle.shr_node.proofs.Common.{◌≡◌, ◌≤◌, groups_in, view_of, shape_of, AreLooked}
 use Rattle.shr_node.proofs.Splices.{IsSplicing}
-use Rattle.shr_node.proofs.splicing.splice.Given as goal
+use Rattle.shr_node.proofs.splicing.splice_open.Given as goal
 
 abbrev pub invariant-splicing : goal.invariant-splicing
 invariant-splicing g l = record {

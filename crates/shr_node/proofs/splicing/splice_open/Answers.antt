@@ -2,7 +2,7 @@ use Rattle.shr_node.proofs.Common.{◌≡◌, ℕ, true, ◌-◌, ◌<◌, [], l
 use Rattle.shr_node.specs.Closes.{ClosesOne, LeavesWorn, LeavesFree}
 use Rattle.shr_node.proofs.Looks.{looked_still}
 use Rattle.shr_node.proofs.Splices.{IsSplicing, splicing_none, children_closed, splicing_stops, worn_before, free_before, splicing_skips, splicing_was, splicing_one}
-use Rattle.shr_node.proofs.splicing.splice.Goals as goal
+use Rattle.shr_node.proofs.splicing.splice_open.Goals as goal
 
 pub splicing-init : goal.splicing-init
 splicing-init g c = let shape : Shape = shape_of c.args.seat.now.core in let v : View = view_of c.args.seat.now in let u : View = view_of c.open_lists-opens.new.seat in let e : c.len-at.result ≡ groups_in shape = c.len-at.ensures ∙ ap (λ (s : Shape). length s.parents.items) (c.shape.ensures ∙ ap shape_of (c.core.ensures ∙ c.open_lists-opens.ensures.table)) in let there = c.requires.group.1 in record {
