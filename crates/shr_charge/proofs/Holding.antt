@@ -33,3 +33,7 @@ module _ (h : Hierarchy) (old : ChargeToken) (m r : ChargeSat) (result : Kept Tr
     spare = subst (λ (x : Kept TreeEntry). opens (length h.parents) x.items ≤ x.spare) room_is took.spare;
     short = subst (λ (x : Kept TreeEntry). length x.items ≤ 3 * length h.parents) room_is took.short;
   }
+
+-- a token that is as it was holds the room still
+pub still_holds : (old taken new : ChargeToken) (journal : List TreeEntry) → HoldsTreeRoom old taken journal → new ≡ taken → HoldsTreeRoom old new journal
+still_holds old taken new journal has same = record { left = has.left; now = same ∙ has.now }

@@ -18,4 +18,5 @@ pub mod Holding
 pub mod Searches
 pub mod Giving
 pub mod TreeFacts
+pub mod States
 mod KnownValues

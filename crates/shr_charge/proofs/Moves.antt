@@ -6,8 +6,9 @@ use Rattle.shr_charge.proofs.Frames.{on_use, on_tree}
 use Rattle.shr_charge.proofs.Numbering.{op_next, used_more, later_than}
 use Rattle.shr_charge.proofs.Pacing.{ups_few, downs_few}
 use Rattle.shr_charge.proofs.Journaling as journaling
-use Rattle.shr_charge.proofs.Journaling.{offlined_words, was_state, state_made}
+use Rattle.shr_charge.proofs.Journaling.{offlined_words, state_made}
 use Rattle.shr_charge.proofs.Entries.{begin_grows, begin_below, is_made_grows, begun_made, not_same}
+use Rattle.shr_charge.proofs.States.{offline_begun}
 
 -- One operation of the group g, which makes its usage word `new`.
 module _ (k : Shape) (id : ℕ) (m : ChargeSat) (g : ℕ) (low : g < length k.parents.items) (here : m.0.standing.gone ≡ false) (by : Serial) (c d : ℕ) (up : Bool) (paced : (w : ℕ) → IsPaced (both_uses m.0.uses (one_use (op_of g by up w) c d)))
@@ -82,9 +83,6 @@ there_begun (Some e) = refl
 
 -- what a group word tells, by the journal
 module _ (h : Hierarchy) (journal : List TreeEntry) (g : ℕ) (legal : IsTreeJournal h journal) where
-  offline_at : (e : ℕ) → state_at h journal g ≡ Offline e → begin_of journal g ≡ Some e
-  offline_at e is = (subst (WasState h journal g) is (was_state h journal g)).1
-
   there_at : is_made h journal g ≡ true → is_there (state_at h journal g) ≡ true
   there_at made = ap is_there (state_made h journal g (begin_of journal g) made refl) ∙ there_begun (begin_of journal g)
 
@@ -116,13 +114,37 @@ apart_lock : (h : ℕ) → usage_index h ≢ 0
 apart_lock h e = absurd (omega (arith, e))
 
 module _ (k : Shape) (slots id : ℕ) (m : ChargeSat) (here : m.0.standing.gone ≡ false) where
+  -- a loaded group word tells the state by the journal
+  told : (g : ℕ) → g < length k.parents.items → length k.parents.items ≤ 256 → (s : State (Kept TreeEntry) View) (o : IsChargeSound k s) → get_elem? s.views id ≡ some m.0
+      → IsWord (length k.parents.items) (group_in s.words g) × (state_in (group_in s.words g) ≡ state_at (hierarchy_of k) o.journal g)
+  told g low few s o me = let f = o.offlined in let h : Hierarchy = hierarchy_of k in let t : TreeView = m.0.tree in let is = f.words g low in
+      let short = journaling.short h o.journal (group_in s.words) (lock_in s.words) s.homes (map tree_in s.views) id t (at_map tree_in s.views id m.0 me) f in
+      let word = bounded (3 * length k.parents.items) (state_at h o.journal g) (omega (arith, few)) (λ e there. let b = begin_below o.journal g e (offline_begun h o.journal g e there) in omega (arith, b, short)) in
+      (subst (λ (x : ℕ). IsWord (length k.parents.items) x) (sym is) word.0, ap state_in is ∙ word.1)
+
+  -- a group word is loaded by the seat that has the room in hand
+  pub reads : (g : ℕ) → g < length k.parents.items → length k.parents.items ≤ 256 → m.0.tree.in_hand ≡ true → Allows (IsChargeSound k) slots id m (group_index g) (λ y. y) (λ w r. (r ≡ m) × (state_in w ≡ state_at (hierarchy_of k) m.0.tree.hand g) × IsWord (length k.parents.items) w)
+  reads g low few has s o _ me fits = let v : View = m.0 in let t : TreeView = v.tree in let i : ℕ = group_index g in let w : ℕ = get_or s.words i 0 in let f = o.offlined in let h : Hierarchy = hierarchy_of k in
+      let at = at_map tree_in s.views id v me in let same = set-get_or s.words i 0 in let seen = f.seen id t at in let tells = told g low few s o me in (
+        v,
+        keeps,
+        tt,
+        on_tree k s o id v me here i w (apart_group g) s.homes t o.journal
+            (offlined_words h o.journal (group_in s.words) (group_in (set s.words i w)) (lock_in s.words) (lock_in (set s.words i w)) s.homes (set (map tree_in s.views) id t)
+            (λ j near. ap (λ (l : List ℕ). get_or l (group_index j) 0) same) (ap (λ (l : List ℕ). get_or l 0 0) same)
+            (subst (IsOfflined h o.journal (group_in s.words) (lock_in s.words) s.homes) (sym (set_again (map tree_in s.views) id t at)) f)),
+        (
+          refl,
+          tells.1 ∙ ap (λ (l : List TreeEntry). state_at h l g) (sym (seen.hand has)),
+          tells.0,
+        ),
+      )
+
   -- a group word is loaded
   pub loads : (g : ℕ) → g < length k.parents.items → length k.parents.items ≤ 256 → Allows (IsChargeSound k) slots id m (group_index g) (λ y. y) (λ w r. (r ≡ with_tree m (with_load m.0.tree g (state_in w))) × Shows (hierarchy_of k) m.0.tree g (state_in w) × IsWord (length k.parents.items) w)
-  loads g low few s o deep me fits = let v : View = m.0 in let t : TreeView = v.tree in let i : ℕ = group_index g in let w : ℕ = get_or s.words i 0 in let f = o.offlined in let h : Hierarchy = hierarchy_of k in
-      let at = at_map tree_in s.views id v me in let same = set-get_or s.words i 0 in let is = f.words g low in let seen = f.seen id t at in
-      let short = journaling.short h o.journal (group_in s.words) (lock_in s.words) s.homes (map tree_in s.views) id t at f in
-      let told = bounded (3 * length k.parents.items) (state_at h o.journal g) (omega (arith, few)) (λ e there. let b = begin_below o.journal g e (offline_at h o.journal g f.legal e there) in omega (arith, b, short)) in
-      let state : state_in w ≡ state_at h o.journal g = ap state_in is ∙ told.1 in (
+  loads g low few s o _ me fits = let v : View = m.0 in let t : TreeView = v.tree in let i : ℕ = group_index g in let w : ℕ = get_or s.words i 0 in let f = o.offlined in let h : Hierarchy = hierarchy_of k in
+      let at = at_map tree_in s.views id v me in let same = set-get_or s.words i 0 in let seen = f.seen id t at in let tells = told g low few s o me in
+      let state : state_in w ≡ state_at h o.journal g = tells.1 in (
         record v { tree = with_load t g (state_in w) },
         keeps,
         tt,
@@ -131,11 +153,7 @@ module _ (k : Shape) (slots id : ℕ) (m : ChargeSat) (here : m.0.standing.gone 
             (λ j near. ap (λ (l : List ℕ). get_or l (group_index j) 0) same) (ap (λ (l : List ℕ). get_or l 0 0) same)
             (subst (λ (x : GroupState). IsOfflined h o.journal (group_in s.words) (lock_in s.words) s.homes (set (map tree_in s.views) id (with_load t g x))) (sym state)
             (journaling.loads h o.journal (group_in s.words) (lock_in s.words) s.homes (map tree_in s.views) id t at f g low))),
-        (
-          refl,
-          subst (Shows h t g) (sym state) (shows_at h o.journal g f.legal t seen),
-          subst (λ (x : ℕ). IsWord (length k.parents.items) x) (sym is) told.0,
-        ),
+        (refl, subst (Shows h t g) (sym state) (shows_at h o.journal g f.legal t seen), tells.0),
       )
 
   -- the room is taken, where the lock word was 0

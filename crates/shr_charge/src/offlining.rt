@@ -1,13 +1,13 @@
 //! Whether a group is online, making it, and taking it offline.
 
-ghost use Rattle.std.specs.Prelude.{◌≡◌, ◌*◌, ◌^◌, ◌<◌, ◌≤◌, true, false, IsSome, List, length};
+ghost use Rattle.std.specs.Prelude.{◌≡◌, ◌*◌, ◌<◌, ◌≤◌, true, IsSome, None, List, length};
 ghost use Rattle.shr_base.specs.declared.journals.TreeEntry.{TreeEntry};
 ghost use Rattle.shr_model.specs.Groups.{is_later};
-ghost use Rattle.shr_model.specs.TreeJournal.{begin_of, is_made, undone_child};
+ghost use Rattle.shr_model.specs.TreeJournal.{begin_of, done_of, made_of, is_made, undone_child, MayBeMade, IsTreeJournal};
 ghost use Rattle.shr_seats.specs.Shapes.{hierarchy_of};
 ghost use Rattle.shr_model.specs.TreeJournal as journal;
 ghost use Rattle.shr_charge.specs.Answers.{KnowsTree, BeginTells, BeginLeaves, IfGiven, MakeTells, MakeLeaves, DoneTells, DoneLeaves};
-ghost use Rattle.shr_charge.specs.Offlining.{opens};
+ghost use Rattle.shr_charge.specs.Offlining.{opens, state_at};
 ghost use Rattle.shr_charge.specs.Rooms.{Decides, Settles, hand_by, hand_made};
 ghost use Rattle.shr_charge.specs.Searching.{AreMarkedGroups};
 ghost use Rattle.shr_charge.specs.Seat.{IsTokenOf, tree_of};
@@ -51,13 +51,54 @@ impl Charge {
         self.shape.later.as_slice()[group as usize]
     }
 
-    // Whether a group is made.
-    fn is_made(&self, entries: &[TreeEntry], group: u16) -> bool
+    // What a group's word tells while the room is in hand: what the journal says.
+    fn state_in_hand(&self, token: &mut Token, group: u16) -> GroupState
+        requires seat { IsTokenOf self.now token.old }
+        requires hand { token.old.me.0.tree.in_hand ≡ true }
         requires group { group < length self.now.shape.parents.items }
-        requires short { length entries.now < 2 ^ 32 }
-        ensures { result ≡ is_made (hierarchy_of self.now.shape) entries.now group }
+        ensures same { token.new ≡ token.old }
+        ensures state { result ≡ state_at (hierarchy_of self.now.shape)
+            token.old.me.0.tree.hand group }
     {
-        !self.is_later(group) || first_like(entries, TreeEntry::Made { group }).is_some()
+        let at = WORDS_A_GROUP * group as usize + 2;
+        state_of(self.load_as::<Brand>(token, at, group))
+    }
+
+    // The number of a group's Done, which stands behind its Begin.
+    fn done_in(&self, token: &mut Token, entries: &[TreeEntry], group: u16) -> Option<u32>
+        requires seat { IsTokenOf self.now token.old }
+        requires hand { token.old.me.0.tree.in_hand ≡ true }
+        requires journal { token.old.me.0.tree.hand ≡ entries.now }
+        requires legal { IsTreeJournal (hierarchy_of self.now.shape) entries.now }
+        requires group { group < length self.now.shape.parents.items }
+        requires short { length entries.now ≤ 3 * length self.now.shape.parents.items }
+        ensures same { token.new ≡ token.old }
+        ensures done { result ≡ done_of entries.now group }
+    {
+        match self.state_in_hand(token, group) {
+            GroupState::Offline { entry } => {
+                first_like(entries, TreeEntry::Done { group }, entry as usize + 1)
+            }
+            GroupState::Online | GroupState::NotMade => None,
+        }
+    }
+
+    // The number of a group's Made, which has none where its word tells that it isn't made.
+    fn made_in(&self, token: &mut Token, entries: &[TreeEntry], group: u16) -> Option<u32>
+        requires seat { IsTokenOf self.now token.old }
+        requires hand { token.old.me.0.tree.in_hand ≡ true }
+        requires journal { token.old.me.0.tree.hand ≡ entries.now }
+        requires group { group < length self.now.shape.parents.items }
+        requires short { length entries.now ≤ 3 * length self.now.shape.parents.items }
+        ensures same { token.new ≡ token.old }
+        ensures made { result ≡ made_of entries.now group }
+    {
+        match self.state_in_hand(token, group) {
+            GroupState::Online | GroupState::Offline { entry: _ } => {
+                first_like(entries, TreeEntry::Made { group }, 0)
+            }
+            GroupState::NotMade => None,
+        }
     }
 
     // Whether a group is a child that is made and isn't done.
@@ -85,11 +126,47 @@ impl Charge {
         None
     }
 
+    // Begins to take a group offline that is online and isn't the root, with the room in hand.
+    fn begin_online(&self, token: &mut Token, room: &mut Log<TreeEntry>, group: u16) -> BeginAnswer
+        requires seat { IsTokenOf self.now token.old }
+        requires hand { token.old.me.0.tree.in_hand ≡ true }
+        requires journal { token.old.me.0.tree.hand ≡ room.old.items }
+        requires group { group < length self.now.shape.parents.items }
+        requires above { 0 < group }
+        requires made { is_made (hierarchy_of self.now.shape) room.old.items group ≡ true }
+        requires fresh { begin_of room.old.items group ≡ None }
+        requires undone { done_of room.old.items group ≡ None }
+        requires spare { opens (length self.now.shape.parents.items) room.old.items
+            ≤ room.old.spare }
+        requires short { length room.old.items ≤ 3 * length self.now.shape.parents.items }
+        ensures view { token.new ≡ record token.old {
+          me = with_tree token.old.me
+              (hand_by group result token.old.me.0.tree);
+        } }
+        ensures decides { Decides (hierarchy_of self.now.shape) group result room.old.items
+            room.new.items }
+        ensures spare { opens (length self.now.shape.parents.items) room.new.items
+            ≤ room.new.spare }
+    {
+        let entry = room.len() as u32;
+        if let Some(child) = self.undone_child(room.as_slice(), group) {
+            return BeginAnswer::HasChildren { child, entry };
+        }
+        // The Begin, and a Done for each group.
+        if room.reserve(self.shape.parents.len() + 2).is_err() {
+            return BeginAnswer::Memory;
+        }
+        room.push(TreeEntry::Begin { group });
+        self.store_begin(token, group, entry);
+        BeginAnswer::Begun { entry }
+    }
+
     // Begins to take a group offline that isn't the root, with the room in hand.
     fn begin_in(&self, token: &mut Token, room: &mut Log<TreeEntry>, group: u16) -> BeginAnswer
         requires seat { IsTokenOf self.now token.old }
         requires hand { token.old.me.0.tree.in_hand ≡ true }
         requires journal { token.old.me.0.tree.hand ≡ room.old.items }
+        requires legal { IsTreeJournal (hierarchy_of self.now.shape) room.old.items }
         requires group { group < length self.now.shape.parents.items }
         requires above { 0 < group }
         requires spare { opens (length self.now.shape.parents.items) room.old.items
@@ -104,26 +181,42 @@ impl Charge {
         ensures spare { opens (length self.now.shape.parents.items) room.new.items
             ≤ room.new.spare }
     {
-        if let Some(entry) = first_like(room.as_slice(), TreeEntry::Done { group }) {
+        if let Some(entry) = self.done_in(token, room.as_slice(), group) {
             return BeginAnswer::AlreadyDone { entry };
         }
-        if let Some(entry) = first_like(room.as_slice(), TreeEntry::Begin { group }) {
-            return BeginAnswer::Resumed { entry };
+        match self.state_in_hand(token, group) {
+            GroupState::Offline { entry } => BeginAnswer::Resumed { entry },
+            GroupState::NotMade => BeginAnswer::NotMade { group },
+            GroupState::Online => self.begin_online(token, room, group),
         }
-        if !self.is_made(room.as_slice(), group) {
-            return BeginAnswer::NotMade { group };
-        }
+    }
+
+    // Makes a later group that isn't made, below a parent that is online, with the room in hand.
+    fn make_online(&self, token: &mut Token, room: &mut Log<TreeEntry>, group: u16) -> MakeAnswer
+        requires seat { IsTokenOf self.now token.old }
+        requires hand { token.old.me.0.tree.in_hand ≡ true }
+        requires journal { token.old.me.0.tree.hand ≡ room.old.items }
+        requires may { MayBeMade (hierarchy_of self.now.shape) room.old.items group }
+        requires spare { opens (length self.now.shape.parents.items) room.old.items
+            ≤ room.old.spare }
+        requires short { length room.old.items ≤ 3 * length self.now.shape.parents.items }
+        ensures view { token.new ≡ record token.old {
+          me = with_tree token.old.me
+              (hand_made group result token.old.me.0.tree);
+        } }
+        ensures settles { Settles (hierarchy_of self.now.shape) group result room.old.items
+            room.new.items }
+        ensures spare { opens (length self.now.shape.parents.items) room.new.items
+            ≤ room.new.spare }
+    {
         let entry = room.len() as u32;
-        if let Some(child) = self.undone_child(room.as_slice(), group) {
-            return BeginAnswer::HasChildren { child, entry };
+        // The Made, and a Done for each group.
+        if room.reserve(self.shape.parents.len() + 1).is_err() {
+            return MakeAnswer::Memory;
         }
-        // The Begin, and a Done for each group.
-        if room.reserve(self.shape.parents.len() + 2).is_err() {
-            return BeginAnswer::Memory;
-        }
-        room.push(TreeEntry::Begin { group });
-        self.store_begin(token, group, entry);
-        BeginAnswer::Begun { entry }
+        room.push(TreeEntry::Made { group });
+        self.store_made(token, group);
+        MakeAnswer::Made { entry }
     }
 
     // Makes a later group, with the room in hand.
@@ -131,6 +224,7 @@ impl Charge {
         requires seat { IsTokenOf self.now token.old }
         requires hand { token.old.me.0.tree.in_hand ≡ true }
         requires journal { token.old.me.0.tree.hand ≡ room.old.items }
+        requires legal { IsTreeJournal (hierarchy_of self.now.shape) room.old.items }
         requires group { group < length self.now.shape.parents.items }
         requires late { is_later self.now.shape.later.items group ≡ true }
         requires spare { opens (length self.now.shape.parents.items) room.old.items
@@ -145,24 +239,15 @@ impl Charge {
         ensures spare { opens (length self.now.shape.parents.items) room.new.items
             ≤ room.new.spare }
     {
-        if let Some(entry) = first_like(room.as_slice(), TreeEntry::Made { group }) {
+        if let Some(entry) = self.made_in(token, room.as_slice(), group) {
             return MakeAnswer::AlreadyMade { entry };
         }
         let parent = self.parent(group);
-        if !self.is_made(room.as_slice(), parent) {
-            return MakeAnswer::NotMade { group: parent };
+        match self.state_in_hand(token, parent) {
+            GroupState::NotMade => MakeAnswer::NotMade { group: parent },
+            GroupState::Offline { entry } => MakeAnswer::Offline { entry },
+            GroupState::Online => self.make_online(token, room, group),
         }
-        if let Some(entry) = first_like(room.as_slice(), TreeEntry::Begin { group: parent }) {
-            return MakeAnswer::Offline { entry };
-        }
-        let entry = room.len() as u32;
-        // The Made, and a Done for each group.
-        if room.reserve(self.shape.parents.len() + 1).is_err() {
-            return MakeAnswer::Memory;
-        }
-        room.push(TreeEntry::Made { group });
-        self.store_made(token, group);
-        MakeAnswer::Made { entry }
     }
 }
 
@@ -227,7 +312,7 @@ impl<'a> ChargeSeat<'a> {
         ensures rest { self.new ≡ record self.old { tree = tree_of self.new } }
     {
         let mut room = self.charge.take_tree(rt, &mut self.token);
-        if let Some(entry) = first_like(room.as_slice(), TreeEntry::Done { group }) {
+        if let Some(entry) = self.charge.done_in(&mut self.token, room.as_slice(), group) {
             self.charge.give_tree(&mut self.token, room);
             return DoneAnswer::AlreadyDone { entry };
         }

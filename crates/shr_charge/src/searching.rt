@@ -1,6 +1,6 @@
 //! Searching the journal of the tree.
 
-ghost use Rattle.std.specs.Prelude.{◌≡◌, ◌==◌, ◌^◌, ◌<◌, ◌||◌, ℕ, length};
+ghost use Rattle.std.specs.Prelude.{◌≡◌, ◌==◌, ◌^◌, ◌<◌, ◌||◌, ℕ, length, take, None};
 ghost use Rattle.shr_model.specs.TreeJournal.{is_making, is_done};
 ghost use Rattle.shr_charge.specs.Searching.{AreMarkedGroups, is_marked, is_like, entry_number};
 
@@ -16,12 +16,14 @@ fn is_like(entry: TreeEntry, wanted: TreeEntry) -> bool
     entry == wanted
 }
 
-/// The number of the first entry of this kind and group. Our own.
-pub(crate) fn first_like(entries: &[TreeEntry], wanted: TreeEntry) -> Option<u32>
-    requires { length entries.now < 2 ^ 32 }
+/// The number of the first entry of this kind and group, of which none stands before `from`. Our
+/// own.
+pub(crate) fn first_like(entries: &[TreeEntry], wanted: TreeEntry, from: usize) -> Option<u32>
+    requires short { length entries.now < 2 ^ 32 }
+    requires before { entry_number wanted (take from entries.now) ≡ None }
     ensures { result ≡ entry_number wanted entries.now }
 {
-    for i in 0..entries.len() {
+    for i in from..entries.len() {
         if is_like(entries[i], wanted) {
             return Some(i as u32);
         }

@@ -1,10 +1,34 @@
-use Rattle.shr_charge.proofs.Common.{◌≡◌, ◌+◌, ◌≤◌, length, sym, ◌∙◌, arith, Result, Ok, Err, is_err, false, OnOk}
-use Rattle.shr_charge.proofs.Entries.{opens_all}
+use Rattle.shr_charge.proofs.Common.{◌≡◌, ap, sym, refl, subst, ◌∙◌, None, true, Some, ChargeToken, hierarchy_of, begin_of, is_made, made_of, state_at}
+use Rattle.shr_charge.proofs.States.{offline_begun, offline_made, online_made, online_fresh, absent_not_made}
 use Rattle.shr_charge.proofs.table.Charge.make_in.Goals as goal
 
-when_ok : {T E : Type 0} (r : Result T E) (P : Type 0) → is_err r ≡ false → OnOk r P → P
-when_ok (Ok x) P f p = p
-when_ok (Err e) P f p = absurd (let z : Rattle.std.specs.Prelude.true ≡ false = f in cc)
+pub returns-in-NotMade-clause-settles : goal.returns-in-NotMade-clause-settles
+returns-in-NotMade-clause-settles c = let h = hierarchy_of c.args.self.now.shape in let es = c.args.room.now.items in let g = c.parent-parent.result in
+    let hand = ap (λ (t : ChargeToken). t.me.0.tree.hand) c.made_in.ensures.same ∙ c.requires.journal in
+    let is = sym (ap (λ l. state_at h l g) hand) ∙ (sym c.state_in_hand.ensures.state ∙ c.in-NotMade.is) in
+    let fresh = ap (λ l. made_of l c.args.group) (sym c.as_slice.ensures) ∙ (sym c.made_in.ensures.made ∙ c.in_default.is) in
+    (refl, fresh, c.parent-parent.ensures, absent_not_made h es g is)
 
-pub returns-clause-spare : goal.returns-clause-spare
-returns-clause-spare c = let many = c.len.ensures in let roomy : c.len.result + 1 ≤ c.reserve.new.self.spare = when_ok c.reserve.result _ (sym c.is_err.ensures.value ∙ c.if-is_err.false) c.reserve.ensures.spare in let all = opens_all c.push.new.self.items (length c.args.self.now.shape.parents.items) in let pushed = c.push.ensures.spare in omega (arith, many, roomy, all, pushed)
+pub returns-in-Offline-clause-settles : goal.returns-in-Offline-clause-settles
+returns-in-Offline-clause-settles c = let h = hierarchy_of c.args.self.now.shape in let es = c.args.room.now.items in let g = c.parent-parent.result in let e = c.in-Offline.entry in
+    let hand = ap (λ (t : ChargeToken). t.me.0.tree.hand) c.made_in.ensures.same ∙ c.requires.journal in
+    let is = sym (ap (λ l. state_at h l g) hand) ∙ (sym c.state_in_hand.ensures.state ∙ c.in-Offline.is) in
+    let fresh = ap (λ l. made_of l c.args.group) (sym c.as_slice.ensures) ∙ (sym c.made_in.ensures.made ∙ c.in_default.is) in
+    (refl, fresh, subst (λ k. is_made h es k ≡ true) c.parent-parent.ensures (offline_made h es g e is), subst (λ k. begin_of es k ≡ Some e) c.parent-parent.ensures (offline_begun h es g e is))
+
+pub make_online-requires-clause-may : goal.make_online-requires-clause-may
+make_online-requires-clause-may c = let h = hierarchy_of c.args.self.now.shape in let es = c.args.room.now.items in let g = c.parent-parent.result in
+    let hand = ap (λ (t : ChargeToken). t.me.0.tree.hand) c.made_in.ensures.same ∙ c.requires.journal in
+    let is = sym (ap (λ l. state_at h l g) hand) ∙ (sym c.state_in_hand.ensures.state ∙ c.in-Online.is) in record {
+      there = c.requires.group;
+      late = c.requires.late;
+      once = ap (λ l. made_of l c.args.group) (sym c.as_slice.ensures) ∙ (sym c.made_in.ensures.made ∙ c.in_default.is);
+      parent = subst (λ k. is_made h es k ≡ true) c.parent-parent.ensures (online_made h es g is);
+      online = subst (λ k. begin_of es k ≡ None) c.parent-parent.ensures (online_fresh h es g is);
+    }
+
+pub returns-in-NotMade-clause-view : goal.returns-in-NotMade-clause-view
+returns-in-NotMade-clause-view c = c.state_in_hand.ensures.same ∙ c.made_in.ensures.same
+
+pub returns-in-Offline-clause-view : goal.returns-in-Offline-clause-view
+returns-in-Offline-clause-view c = c.state_in_hand.ensures.same ∙ c.made_in.ensures.same
