@@ -1,16 +1,12 @@
 -- One item more of a run.
 use Rattle.std.proofs.Common.{◌≡◌, ℕ, ◌+◌, ◌-◌, ◌<◌, ◌≤◌, List, [], ◌∷◌, ◌++◌, length, take, drop, get_or, sym, subst, ap, ◌∙◌, arith, length-drop}
 use Rattle.std.proofs.Math.Seq.{length-take-le}
-use Rattle.std.proofs.lemmas.List.{append-nil, take_more, get_or-drop}
+use Rattle.std.proofs.lemmas.List.{append-nil, take_more, take_all, get_or-drop}
 use Rattle.std.specs.List.{AllByRecursion}
 use Rattle.shr_model.proofs.BagLaws.{each_append}
 use Rattle.shr_report.specs.Lines.{numbered}
 use Rattle.shr_print.specs.Runs.{run_of}
 use Rattle.shr_print.specs.Joined.{numbered_append}
-
--- none yet
-pub run_none : {X : Type 0} (xs : List X) (n : ℕ) → run_of n n xs ≡ []
-run_none xs n = let e : n - n ≡ 0 = omega arith in ap (λ k. take k (drop n xs)) e
 
 -- the next
 pub run_more : {X : Type 0} (xs : List X) (from i : ℕ) (x : X) → from ≤ i → i < length xs → x ≡ get_or xs i x → run_of from (i + 1) xs ≡ run_of from i xs ++ x ∷ []
@@ -35,3 +31,7 @@ texts_more f xs from i x le lt is =
 -- what is so of each
 pub facts_more : {X : Type 0} (P : X → Type 0) (xs : List X) (from i : ℕ) (x : X) → from ≤ i → i < length xs → x ≡ get_or xs i x → AllByRecursion P (run_of from i xs) → P x → AllByRecursion P (run_of from (i + 1) xs)
 facts_more P xs from i x le lt is so_far here = subst (AllByRecursion P) (sym (run_more xs from i x le lt is)) (each_append P (run_of from i xs) (x ∷ []) so_far (here, tt))
+
+-- a run of all items
+pub run_all : {X : Type 0} (xs : List X) → run_of 0 (length xs) xs ≡ xs
+run_all xs = let e : length xs - 0 ≡ length xs = omega arith in ap (λ n. take n xs) e ∙ take_all (length xs) xs (omega arith)

@@ -6,14 +6,25 @@ use Rattle.shr_outside.specs.Fakes.{Drain}
 abbrev pub cut_at : List ℕ → ℕ → ℕ
 cut_at cuts i = slice_index_or cuts i 0
 
--- The first cut stands before the first item, no cut before an earlier one, and the last behind so
--- many items.
-pub record AreCuts (cuts : List ℕ) (size : ℕ) : Type 0 where
+-- the last cut
+abbrev pub last_cut : List ℕ → ℕ
+last_cut cuts = cut_at cuts (length cuts - 1)
+
+-- no cut stands before an earlier one, and none behind so many items
+pub record AreRising (cuts : List ℕ) (size : ℕ) : Type 0 where
   pub some : 0 < length cuts
-  pub first : cut_at cuts 0 ≡ 0
   pub rising : (i : ℕ) → i + 1 < length cuts → cut_at cuts i ≤ cut_at cuts (i + 1)
   pub within : (i : ℕ) → i < length cuts → cut_at cuts i ≤ size
-  pub last : cut_at cuts (length cuts - 1) ≡ size
+
+-- the first cut stands before the first item, and the last behind so many
+pub record AreCuts (cuts : List ℕ) (size : ℕ) : Type 0 where
+  pub rising : AreRising cuts size
+  pub first : cut_at cuts 0 ≡ 0
+  pub last : last_cut cuts ≡ size
+
+-- they are cuts of no more than so many items
+abbrev pub IsCutTo : List ℕ → ℕ → Type 0
+IsCutTo cuts at = (size : ℕ) × (AreCuts cuts size × (size ≤ at))
 
 module _ (text : ℕ → ℕ → List ℕ) (known : ℕ → ℕ → Type 0) where
   -- a part was printed: it is the text in memory, if there was memory for it

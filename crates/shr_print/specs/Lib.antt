@@ -1,3 +1,5 @@
 pub mod Runs
 pub mod Cuts
 pub mod Joined
+pub mod Then
+pub mod ThenLaws

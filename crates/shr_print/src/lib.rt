@@ -1,10 +1,14 @@
 //! A report's text, printed by several threads.
 #![tactic(auto)]
 
-mod cuts;
+mod crew;
+mod cutter;
+mod measure;
 mod parts;
 pub mod printing;
 mod section;
 mod sections;
 #[cfg(test)]
 mod tests;
+mod then;
+mod turns;

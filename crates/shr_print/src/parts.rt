@@ -3,8 +3,9 @@
 ghost use Rattle.std.specs.Prelude.{◌≡◌, ◌≤◌, ◌<◌, ◌+◌, IfOk, IfSome, [], length, vec_len};
 ghost use Rattle.shr_outside.specs.Paper.{Prints, IsLeft};
 ghost use Rattle.shr_outside.specs.Writing.{Writes};
-ghost use Rattle.shr_print.specs.Cuts.{AreCuts, AreParts, IsPart, cut_at};
+ghost use Rattle.shr_print.specs.Cuts.{AreRising, AreParts, IsPart, cut_at, last_cut};
 
+use crate::crew::Crew;
 use crate::section::Section;
 use shr_base::memory::Memory;
 use shr_outside::outside::Sink;
@@ -74,24 +75,24 @@ fn in_memory<S: Section>(
 }
 
 // The parts between the cuts, each printed in a thread of its own where one can be made.
-fn printed_parts<R: Threads + Sync, S: Section + Sync>(
-    rt: &R,
-    alloc: Global,
+fn printed_parts<R: Threads, S: Section + Sync>(
+    crew: &Crew<R>,
     section: &S,
     cuts: &[usize],
     room: usize,
 ) -> Result<Vec<Option<MemorySink>>, Memory>
-    requires { AreCuts cuts.now (S.size section.now) }
+    requires { AreRising cuts.now (S.size section.now) }
     ensures len { IfOk result (λ parts. vec_len parts + 1 ≡ length cuts.now) }
     ensures parts { IfOk result (λ parts. AreParts (S.text section.now) (S.known section.now)
         cuts.now parts.items) }
 {
+    let alloc = crew.alloc;
     Ok(thread::map_indices(
-        rt,
+        &crew.leave,
         alloc,
         cuts.len() - 1,
         &|i| -> Option<MemorySink>
-            requires { AreCuts cuts.now (S.size section.now) × (i + 1 < length cuts.now) }
+            requires { AreRising cuts.now (S.size section.now) × (i + 1 < length cuts.now) }
             ensures { IsPart (S.text section.entry.now) (S.known section.entry.now)
                 (cut_at cuts.entry.now i) (cut_at cuts.entry.now (i + 1)) result }
         { in_memory(alloc, section, cuts[i], cuts[i + 1], room) },
@@ -123,64 +124,34 @@ fn put_parts<S: Section, K: Sink>(
     cuts: &[usize],
     parts: &[Option<MemorySink>],
 )
-    requires cuts { AreCuts cuts.now (S.size section.now) }
+    requires cuts { AreRising cuts.now (S.size section.now) }
     requires len { length parts.now + 1 ≡ length cuts.now }
     requires parts { AreParts (S.text section.now) (S.known section.now) cuts.now parts.now }
     ensures printed { Prints K.written K.faults out.old out.new
-        (S.text section.now 0 (S.size section.now)) }
-    ensures known { S.known section.now 0 (S.size section.now) }
+        (S.text section.now (cut_at cuts.now 0) (last_cut cuts.now)) }
+    ensures known { S.known section.now (cut_at cuts.now 0) (last_cut cuts.now) }
 {
     for (i, part) in parts.iter().enumerate() {
         put_part(section, out, cuts[i], cuts[i + 1], part);
     }
 }
 
-// The bytes of a line, which few are longer than: a part whose room is enough isn't moved as it grows,
-// and room that isn't written on takes no memory.
-const A_LINE: usize = 64;
-
-// Prints a section by so many threads. Want of memory leaves it to this one.
-fn print_apart<R: Threads + Sync, S: Section + Sync, K: Sink>(
-    rt: &R,
-    alloc: Global,
+/// Prints the parts between the cuts, each by a thread that begins with room for so many bytes. Want of
+/// memory for the threads leaves them to this one. Our own.
+pub(crate) fn print_turn<R: Threads, S: Section + Sync, K: Sink>(
+    crew: &Crew<R>,
     section: &S,
     out: &mut Paper<K>,
-    threads: usize,
+    cuts: &[usize],
+    room: usize,
 )
+    requires { AreRising cuts.now (S.size section.now) }
     ensures printed { Prints K.written K.faults out.old out.new
-        (S.text section.now 0 (S.size section.now)) }
-    ensures known { S.known section.now 0 (S.size section.now) }
+        (S.text section.now (cut_at cuts.now 0) (last_cut cuts.now)) }
+    ensures known { S.known section.now (cut_at cuts.now 0) (last_cut cuts.now) }
 {
-    let Ok(cuts) = section.cuts(alloc, threads) else {
-        return section.print(out, 0, section.len());
-    };
-    let cuts = cuts.as_slice();
-    let room = (section.lines() / threads.max(1)).saturating_mul(A_LINE);
-    match printed_parts(rt, alloc, section, cuts, room) {
+    match printed_parts(crew, section, cuts, room) {
         Ok(parts) => put_parts(section, out, cuts, parts.as_slice()),
-        Err(Memory) => section.print(out, 0, section.len()),
-    }
-}
-
-// The fewest lines of a section that is printed by threads. A thread costs some 30 microseconds, in
-// which some hundreds of lines are printed.
-const MANY: usize = 4000;
-
-/// Prints a section, by threads where it is long and there are two or more. Our own.
-pub(crate) fn print_section<R: Threads + Sync, S: Section + Sync, K: Sink>(
-    rt: &R,
-    alloc: Global,
-    section: &S,
-    out: &mut Paper<K>,
-    threads: usize,
-)
-    ensures printed { Prints K.written K.faults out.old out.new
-        (S.text section.now 0 (S.size section.now)) }
-    ensures known { S.known section.now 0 (S.size section.now) }
-{
-    if threads < 2 || section.lines() < MANY {
-        section.print(out, 0, section.len())
-    } else {
-        print_apart(rt, alloc, section, out, threads)
+        Err(Memory) => section.print(out, cuts[0], cuts[cuts.len() - 1]),
     }
 }

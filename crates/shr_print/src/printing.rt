@@ -7,10 +7,11 @@ ghost use Rattle.shr_report.specs.Same.{Determines};
 ghost use Rattle.shr_report.specs.WellFormed.{IsWellFormed};
 ghost use Rattle.shr_report.specs.Text.{reply_count, walk_count, text};
 
-use crate::parts::print_section;
-use crate::sections::{Lists, Uses, Workers};
-use shr_base::ends::{PlaceEnd, WorkerPart};
-use shr_base::journals::UseStep;
+use crate::crew::Crew;
+use crate::sections::{Between, Lists, Uses, Workers};
+use crate::then::Then;
+use crate::turns::print_section;
+use shr_base::ends::WorkerPart;
 use shr_base::memory::Memory;
 use shr_outside::outside::Sink;
 use shr_outside::paper::Paper;
@@ -18,61 +19,35 @@ use shr_report::printers::Printer;
 use shr_report::report::Report;
 use shr_report::text::print_by;
 use std::alloc::Global;
-use std::marker::PhantomData;
-use std::sync::atomic::AtomicPtr;
 use std::thread::Threads;
 
 // The most threads that print. Handing the bytes of all parts on is the work of one, so more would
 // gain little.
 const MOST: usize = 4;
 
-// The leave to start threads that a handle gives. It holds nothing of the handle, so any thread may
-// have it: of the `AtomicPtr`, which any thread may have too, it has the type alone.
-#[derive(Clone, Copy)]
-struct Leave<R> {
-    handle: PhantomData<AtomicPtr<R>>,
-}
+// About the fewest lines of a turn where there are several, which bounds what is in memory at once: a
+// report of less than twice as many lines is printed in one.
+const TURN: usize = 80000;
 
-impl<R: Threads> Threads for Leave<R> {}
-
-// Prints each section by several threads, a part of it each, where it is long.
-#[derive(Drop)]
-struct OnThreads<R> {
-    leave: Leave<R>,
-    alloc: Global,
-    threads: usize,
-}
-
-impl<R: Threads> OnThreads<R> {
-    // One who prints by at most so many threads, and no more than four.
-    fn new(_rt: &R, alloc: Global, threads: usize) -> OnThreads<R> {
-        OnThreads {
-            leave: Leave {
-                handle: PhantomData,
+impl<R: Threads> Printer for Crew<R> {
+    fn body<K: Sink>(&self, out: &mut Paper<K>, report: &Report) {
+        let body = Then {
+            first: Workers {
+                parts: report.workers.as_slice(),
             },
-            alloc,
-            threads: threads.min(MOST),
-        }
-    }
-}
-
-impl<R: Threads> Printer for OnThreads<R> {
-    fn workers<K: Sink>(&self, out: &mut Paper<K>, parts: &[WorkerPart]) {
-        print_section(
-            &self.leave,
-            self.alloc,
-            &Workers { parts },
-            out,
-            self.threads,
-        )
-    }
-
-    fn places<K: Sink>(&self, out: &mut Paper<K>, ends: &[PlaceEnd]) {
-        print_section(&self.leave, self.alloc, &Lists { ends }, out, self.threads)
-    }
-
-    fn uses<K: Sink>(&self, out: &mut Paper<K>, steps: &[UseStep]) {
-        print_section(&self.leave, self.alloc, &Uses { steps }, out, self.threads)
+            second: Then {
+                first: Lists {
+                    ends: report.places.as_slice(),
+                },
+                second: Then {
+                    first: Between { report },
+                    second: Uses {
+                        steps: report.uses.as_slice(),
+                    },
+                },
+            },
+        };
+        print_section(self, &body, out)
     }
 }
 
@@ -81,10 +56,30 @@ fn busy_workers(parts: &[WorkerPart]) -> usize {
     parts.iter().filter(|part| part.answers.len() > 0).count()
 }
 
-/// Prints a report to a sink as `print` of `shr_report` does, its long sections by as many threads
-/// as there are workers with an answer, and no more than four. Parts of such a section are whole in
-/// memory until it is printed; want of memory leaves them to this thread, and never fails a print.
-/// Our own.
+// The same, in turns of about so many lines where there are several.
+pub(crate) fn print_in_turns<R: Threads, K: Sink>(
+    rt: &R,
+    alloc: Global,
+    report: &Report,
+    sink: &mut K,
+    turn: usize,
+) -> Result<bool, Memory>
+    ensures written { IfOk result (λ done. Writes (K.written sink.old) (K.written sink.new)
+        (K.faults sink.old) (K.faults sink.new) (text report.now) done) }
+    ensures later { K.faults sink.old ≤ K.faults sink.new }
+    ensures kept { OnErr result (sink.new ≡ sink.old) }
+    ensures memory { OnErr result (2 ^ 64 ≤ reply_count report.now
+        ⊎ 2 ^ 64 ≤ walk_count report.now) }
+    ensures determined { Determines (text report.now) report.now }
+    ensures numbers { OnOk result (IsWellFormed report.now → HasNumbers report.now) }
+{
+    let threads = busy_workers(report.workers.as_slice()).min(MOST);
+    print_by(report, sink, &Crew::new(rt, alloc, threads, turn))
+}
+
+/// Prints a report to a sink as `print` of `shr_report` does, by as many threads as there are workers
+/// with an answer, and no more than four. Parts of it are in memory until they are printed; want of
+/// memory leaves them to this thread, and never fails a print. Our own.
 pub fn print_on_threads<R: Threads, K: Sink>(
     rt: &R,
     alloc: Global,
@@ -100,6 +95,5 @@ pub fn print_on_threads<R: Threads, K: Sink>(
     ensures determined { Determines (text report.now) report.now }
     ensures numbers { OnOk result (IsWellFormed report.now → HasNumbers report.now) }
 {
-    let threads = busy_workers(report.workers.as_slice());
-    print_by(report, sink, &OnThreads::new(rt, alloc, threads))
+    print_in_turns(rt, alloc, report, sink, TURN)
 }

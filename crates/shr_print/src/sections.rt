@@ -1,29 +1,37 @@
 //! The sections of a report that are printed by threads.
 
-ghost use Rattle.std.specs.Prelude.{length, flat_map, refl};
+ghost use Rattle.std.specs.Prelude.{length, flat_map, refl, [], ◌∷◌};
 ghost use Rattle.std.specs.List.{AllByRecursion};
+ghost use Rattle.shr_report.specs.Body.{between_lines, IsBetweenNumbered};
 ghost use Rattle.shr_report.specs.Lines.{numbered};
 ghost use Rattle.shr_report.specs.Numbers.{IsListNumbered, IsPartNumbered, IsUseNumbered, ArePartsWell};
 ghost use Rattle.shr_report.specs.Text.{worker_lines, place_lines, use_line};
 ghost use Rattle.shr_print.specs.Runs.{run_of};
-ghost use Rattle.shr_print.specs.Joined.{texts_joined, numbered_none, numbered_joined, facts_joined};
+ghost use Rattle.shr_print.specs.Joined.{texts_none, texts_joined, numbered_none, numbered_joined, facts_none, facts_joined};
 
-use crate::cuts::{even_cuts, weighted_cuts, whole_weight};
+use crate::cutter::{Cutter, cut_all};
+use crate::measure::{Measure, measure_all};
 use crate::section::Section;
 use shr_base::ends::{PlaceEnd, WorkerPart};
 use shr_base::journals::UseStep;
 use shr_base::memory::Memory;
 use shr_outside::outside::Sink;
 use shr_outside::paper::Paper;
+use shr_report::between::put_between;
 use shr_report::printers::put_places;
+use shr_report::report::Report;
 use shr_report::uses::put_uses;
 use shr_report::workers::put_answers;
-use std::alloc::Global;
 
 /// The parts of the workers, numbered from 0. Our own.
 #[derive(Drop)]
 pub(crate) struct Workers<'a> {
     pub(crate) parts: &'a [WorkerPart],
+}
+
+// An answer's line takes twice as long as another.
+fn of_worker(part: &WorkerPart) -> Measure {
+    Measure::of(part.answers.len(), 2)
 }
 
 impl<'a> Section for Workers<'a> {
@@ -33,21 +41,16 @@ impl<'a> Section for Workers<'a> {
 
     ghost known = { λ s from to. ArePartsWell s.parts.now → AllByRecursion IsPartNumbered (run_of from to s.parts.now) };
 
-    fn len(&self) -> usize {
-        self.parts.len()
+    fn among(&self, first: usize) -> usize {
+        first.min(self.parts.len())
     }
 
-    fn lines(&self) -> usize {
-        whole_weight(self.parts, &|part: &WorkerPart| part.answers.len())
+    fn measure(&self) -> Measure {
+        measure_all(self.parts, &of_worker)
     }
 
-    fn cuts(&self, alloc: Global, parts: usize) -> Result<Vec<usize>, Memory> {
-        weighted_cuts(
-            alloc,
-            self.parts,
-            &|part: &WorkerPart| part.answers.len(),
-            parts,
-        )
+    fn cut(&self, cutter: &mut Cutter) -> Result<(), Memory> {
+        cut_all(cutter, self.parts, &of_worker)
     }
 
     fn print<K: Sink>(&self, out: &mut Paper<K>, from: usize, to: usize) {
@@ -56,13 +59,17 @@ impl<'a> Section for Workers<'a> {
         }
     }
 
-    ghost empty = { λ s. numbered_none worker_lines 0 };
+    fn print_all<K: Sink>(&self, out: &mut Paper<K>) {
+        self.print(out, 0, self.parts.len())
+    }
 
-    ghost joined = { λ s from to. numbered_joined worker_lines s.parts.now from to };
+    ghost empty = { λ s n. numbered_none worker_lines s.parts.now n };
 
-    ghost none = { λ s well. tt };
+    ghost joined = { λ s. numbered_joined worker_lines s.parts.now };
 
-    ghost both = { λ s from to le within front next well. facts_joined IsPartNumbered s.parts.now from to le (front well) (next well) };
+    ghost none = { λ s n well. facts_none IsPartNumbered s.parts.now n };
+
+    ghost both = { λ s from to end le le' within front next well. facts_joined IsPartNumbered s.parts.now from to end le le' (front well) (next well) };
 }
 
 /// The lists. Our own.
@@ -71,9 +78,8 @@ pub(crate) struct Lists<'a> {
     pub(crate) ends: &'a [PlaceEnd],
 }
 
-// About how many lines a list has.
-fn list_lines(end: &PlaceEnd) -> usize {
-    end.entries.len().saturating_add(end.items.len())
+fn of_list(end: &PlaceEnd) -> Measure {
+    Measure::of(end.entries.len().saturating_add(end.items.len()), 1)
 }
 
 impl<'a> Section for Lists<'a> {
@@ -83,29 +89,81 @@ impl<'a> Section for Lists<'a> {
 
     ghost known = { λ s from to. AllByRecursion IsListNumbered (run_of from to s.ends.now) };
 
-    fn len(&self) -> usize {
-        self.ends.len()
+    fn among(&self, first: usize) -> usize {
+        first.min(self.ends.len())
     }
 
-    fn lines(&self) -> usize {
-        whole_weight(self.ends, &list_lines)
+    fn measure(&self) -> Measure {
+        measure_all(self.ends, &of_list)
     }
 
-    fn cuts(&self, alloc: Global, parts: usize) -> Result<Vec<usize>, Memory> {
-        weighted_cuts(alloc, self.ends, &list_lines, parts)
+    fn cut(&self, cutter: &mut Cutter) -> Result<(), Memory> {
+        cut_all(cutter, self.ends, &of_list)
     }
 
     fn print<K: Sink>(&self, out: &mut Paper<K>, from: usize, to: usize) {
         put_places(out, &self.ends[from..to])
     }
 
-    ghost empty = { λ s. refl };
+    fn print_all<K: Sink>(&self, out: &mut Paper<K>) {
+        self.print(out, 0, self.ends.len())
+    }
 
-    ghost joined = { λ s from to le within. texts_joined place_lines s.ends.now from to le };
+    ghost empty = { λ s n. texts_none place_lines s.ends.now n };
 
-    ghost none = { λ s. tt };
+    ghost joined = { λ s from to end le le' within. texts_joined place_lines s.ends.now from to end le le' };
 
-    ghost both = { λ s from to le within. facts_joined IsListNumbered s.ends.now from to le };
+    ghost none = { λ s n. facts_none IsListNumbered s.ends.now n };
+
+    ghost both = { λ s from to end le le' within. facts_joined IsListNumbered s.ends.now from to end le le' };
+}
+
+/// What stands between the lists and the operations: one item. Our own.
+#[derive(Drop)]
+pub(crate) struct Between<'a> {
+    pub(crate) report: &'a Report,
+}
+
+impl<'a> Section for Between<'a> {
+    ghost size = { λ s. 1 };
+
+    ghost text = { λ s from to. flat_map between_lines (run_of from to (s.report.now ∷ [])) };
+
+    ghost known = { λ s from to. AllByRecursion IsBetweenNumbered (run_of from to (s.report.now ∷ [])) };
+
+    fn among(&self, first: usize) -> usize {
+        first.min(1)
+    }
+
+    fn measure(&self) -> Measure {
+        let ends = Measure::of(self.report.units.len(), 1);
+        let bits = Measure::of(self.report.maps.len(), 1);
+        let words = Measure::of(self.report.deferred.len(), 1);
+        let of_pools = Measure::of(self.report.pool_deferred.len(), 1);
+        ends.and(bits).and(words).and(of_pools)
+    }
+
+    fn cut(&self, cutter: &mut Cutter) -> Result<(), Memory> {
+        cutter.item(self.measure().weight)
+    }
+
+    fn print<K: Sink>(&self, out: &mut Paper<K>, from: usize, to: usize) {
+        if from < to {
+            put_between(out, self.report)
+        }
+    }
+
+    fn print_all<K: Sink>(&self, out: &mut Paper<K>) {
+        self.print(out, 0, 1)
+    }
+
+    ghost empty = { λ s n. texts_none between_lines (s.report.now ∷ []) n };
+
+    ghost joined = { λ s from to end le le' within. texts_joined between_lines (s.report.now ∷ []) from to end le le' };
+
+    ghost none = { λ s n. facts_none IsBetweenNumbered (s.report.now ∷ []) n };
+
+    ghost both = { λ s from to end le le' within. facts_joined IsBetweenNumbered (s.report.now ∷ []) from to end le le' };
 }
 
 /// The operations on groups' usages. Our own.
@@ -121,27 +179,31 @@ impl<'a> Section for Uses<'a> {
 
     ghost known = { λ s from to. AllByRecursion IsUseNumbered (run_of from to s.steps.now) };
 
-    fn len(&self) -> usize {
-        self.steps.len()
+    fn among(&self, first: usize) -> usize {
+        first.min(self.steps.len())
     }
 
-    fn lines(&self) -> usize {
-        self.steps.len()
+    fn measure(&self) -> Measure {
+        Measure::of(self.steps.len(), 1)
     }
 
-    fn cuts(&self, alloc: Global, parts: usize) -> Result<Vec<usize>, Memory> {
-        even_cuts(alloc, self.steps.len(), parts)
+    fn cut(&self, cutter: &mut Cutter) -> Result<(), Memory> {
+        cutter.row(self.steps.len())
     }
 
     fn print<K: Sink>(&self, out: &mut Paper<K>, from: usize, to: usize) {
         put_uses(out, &self.steps[from..to])
     }
 
-    ghost empty = { λ s. refl };
+    fn print_all<K: Sink>(&self, out: &mut Paper<K>) {
+        self.print(out, 0, self.steps.len())
+    }
 
-    ghost joined = { λ s from to le within. texts_joined use_line s.steps.now from to le };
+    ghost empty = { λ s n. texts_none use_line s.steps.now n };
 
-    ghost none = { λ s. tt };
+    ghost joined = { λ s from to end le le' within. texts_joined use_line s.steps.now from to end le le' };
 
-    ghost both = { λ s from to le within. facts_joined IsUseNumbered s.steps.now from to le };
+    ghost none = { λ s n. facts_none IsUseNumbered s.steps.now n };
+
+    ghost both = { λ s from to end le le' within. facts_joined IsUseNumbered s.steps.now from to end le le' };
 }

@@ -6,15 +6,15 @@ use Rattle.shr_outside.specs.Paper.{Prints}
 use Rattle.shr_report.specs.Numbers.{IsPartNumbered}
 use Rattle.shr_report.specs.WellFormed.{IsPartWell}
 use Rattle.shr_report.specs.Text.{worker_lines}
-use Rattle.shr_print.specs.Joined.{numbered_none}
-use Rattle.shr_print.proofs.Runs.{run_none, texts_more, facts_more}
+use Rattle.shr_print.specs.Joined.{run_none, numbered_none}
+use Rattle.shr_print.proofs.Runs.{texts_more, facts_more}
 use Rattle.shr_print.proofs.sections.WorkersSection.print.Goals as goal
 
 pub loop-worker-init : goal.loop-worker-init
 loop-worker-init g c =
     let none = run_none c.args.self.now.parts.now c.args.from in
     record {
-      printed = rw (none, numbered_none worker_lines c.args.from) (refl, λ task left h. h);
+      printed = rw (numbered_none worker_lines c.args.self.now.parts.now c.args.from) (refl, λ task left h. h);
       numbers = λ well. subst (AllByRecursion IsPartNumbered) (sym none) tt;
     }
 
