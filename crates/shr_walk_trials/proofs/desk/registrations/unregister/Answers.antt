@@ -5,4 +5,4 @@ use Rattle.shr_walk_trials.proofs.desk.registrations.unregister.Goals as goal
 pub invariant_of-worker : goal.invariant_of-worker
 invariant_of-worker g c = let s = c.worker.inside.seats in
     seated c.worker.inside.shared.now s c.unregister.new.seat c.worker.invariant c.unregister.ensures.table
-    (leaves_unregister (shape_of c.worker.inside.shared.now.core) (view_of s.cache.core) (view_of c.unregister.new.seat) _ _ c.unregister.result c.unregister.ensures.rooms c.unregister.ensures.answer)
+    (leaves_unregister (shape_of s.cache.core.core) (view_of s.cache.core) (view_of c.unregister.new.seat) _ _ c.unregister.result c.unregister.ensures.rooms c.unregister.ensures.answer)
