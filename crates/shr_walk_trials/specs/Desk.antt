@@ -39,3 +39,14 @@ pub record AreFirstSeats (x : Shared) (s : Seats) (splits : ℕ) : Type 0 where
   pub core : (view_of s.cache.core).standing ≡ split_so_often splits
   pub charge : charges_standing s.cache.charge ≡ split_so_often splits
   pub deferred : deferred_standing s.deferred ≡ split_so_often splits
+
+-- what a thread starts with that walks while other seats hold an id
+pub record Starting : Type 0 where
+  pub shared : Shared
+  pub walker : Seats
+  pub holder : Seats
+
+-- it may walk, and the id of the place is held
+pub record CanStart (place : Place) (s : Starting) : Type 0 where
+  pub fit : IsFit s.shared s.walker
+  pub holder : IsHolder s.shared place s.holder

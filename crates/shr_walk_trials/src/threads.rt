@@ -2,7 +2,7 @@
 
 ghost use Rattle.std.specs.Prelude.{IfOk};
 ghost use Rattle.shr_walk.specs.Acting.{IsFit};
-ghost use Rattle.shr_walk_trials.specs.Desk.{AreNew, IsHolder};
+ghost use Rattle.shr_walk_trials.specs.Desk.{AreNew, CanStart};
 
 use crate::desk::holding::{hold, rest};
 use crate::desk::left::{outcome, place_of};
@@ -16,9 +16,12 @@ use shr_base::walks::{GoneThen, Outcome, WalkAnswer};
 use shr_registry::answers::UnregisterAnswer;
 use shr_walk::seats::{FirstSeats, Seats, Shared};
 use shr_walk::worker::Worker;
+use std::alloc::Global;
+use std::marker::Model;
 use std::sync::Wait;
 use std::test::Fail;
 use std::thread;
+use std::thread::Threads;
 
 const THREE_IDS: &[u8] =
     b"shrinkers 1\nsize 1 3\ncache one plain 2 0 0 any on\ncache two plain 2 0 0 any on\ncache three plain 2 0 0 any on\nend\n";
@@ -39,30 +42,56 @@ fn wait_for_dying<R: Wait>(worker: &mut Worker<'_, R>) {
     }
 }
 
-// Puts an object on the root's list of id 0, and walks the root while id 1 is dying, which waits
-// until the reference to it is given back.
-fn walk_past<'a, R: Wait>(
+// What the first thread starts with: the seats of a worker that is to walk, and those that hold an id
+// meanwhile, with the runtime and the tables that they work with.
+#[derive(Drop)]
+struct Start<'a, R: Wait> {
     rt: &'a R,
     shared: &'a Shared,
     walker: Seats<'a>,
-    mut holder: Seats<'a>,
-) -> (Seats<'a>, Option<WalkAnswer>)
-    requires walker { IsFit shared.now walker }
-    requires holder { IsHolder shared.now HELD holder }
+    holder: Seats<'a>,
+}
+
+impl<'a, R: Wait> Model for Start<'a, R> {
+    ghost use Rattle.shr_walk_trials.specs.Desk.{Starting};
+
+    ghost Value = { Starting };
+
+    ghost view = { λ s. record { shared = s.shared.now; walker = s.walker; holder = s.holder } };
+}
+
+// What the walk was told, the lookup of its first attempt if the pass of that ran, and the outcomes
+// of the next two.
+type Walked = (
+    Option<WalkAnswer>,
+    (Option<u32>, Option<Outcome>, Option<Outcome>),
+);
+
+// Puts an object on the root's list of id 0, and walks the root while id 1 is dying, which waits
+// until the reference to it is given back.
+fn walk_past<R: Wait>(start: Start<'_, R>) -> Walked
+    requires { CanStart HELD start }
 {
+    let Start {
+        rt,
+        shared,
+        walker,
+        mut holder,
+    } = start;
     let mut worker = worker_of(rt, shared, walker);
     fill(&mut worker, place_of(0), 1);
     wait_for_dying(&mut worker);
     let answer = walk(&mut worker, 0, 0, false);
     rest(shared, &mut holder, HELD);
-    (seats_of(worker), answer)
+    (answer, outcomes(&worker.seats))
 }
 
-// Unregisters the second cache, by the seats of a worker of its own.
-fn end<'a, R: Wait>(rt: &'a R, shared: &'a Shared, ender: Seats<'a>) -> Option<UnregisterAnswer>
-    requires { IsFit shared.now ender }
-{
-    unregister(&mut worker_of(rt, shared, ender), 1)
+// Unregisters the second cache, by a worker of its own, and tells whether id 1 was freed.
+fn is_freed_by<R: Wait>(mut ender: Worker<'_, R>) -> bool {
+    matches!(
+        unregister(&mut ender, 1),
+        Some(UnregisterAnswer::Freed { id: 1, .. })
+    )
 }
 
 // The lookup of the first attempt if its pass ran, and the outcomes of the next two.
@@ -92,26 +121,44 @@ fn three<'a, R: Wait>(
     Ok((seats_of(worker), holder, ender))
 }
 
+// What the two threads start with: the walker, for which an id is held, and the worker that ends the cache
+// of that id.
+fn both<'a, R: Wait>(
+    rt: &'a R,
+    shared: &'a Shared,
+    first: FirstSeats,
+) -> Result<(Start<'a, R>, Worker<'a, R>), Fail>
+    requires { AreNew shared.now first }
+    ensures { IfOk result (λ t. CanStart HELD t.0) }
+{
+    let (walker, mut holder, ender) = three(rt, shared, first)?;
+    let Some(0) = hold(shared, &mut holder, HELD) else {
+        return Err(Fail::from("the id is not held"));
+    };
+    let start = Start {
+        rt,
+        shared,
+        walker,
+        holder,
+    };
+    Ok((start, worker_of(rt, shared, ender)))
+}
+
+// What the walk beside the end of a cache came to, and whether the cache's id was freed.
+fn walked_beside<R: Threads + Wait + Sync>(rt: &R, alloc: Global) -> Result<(Walked, bool), Fail> {
+    let (shared, first) = open(alloc, THREE_IDS)?;
+    let (start, ender) = both(rt, &shared, first)?;
+    Ok(thread::join(
+        rt,
+        move ||
+            requires { CanStart HELD start }
+        { walk_past(start) },
+        move || is_freed_by(ender),
+    ))
+}
+
 #[test]
 fn a_root_walk_passes_a_dying_id(rt: HostRuntime) -> Result<(), Fail> {
-    let (table, first) = open(rt.alloc(), THREE_IDS)?;
-    let shared = &table;
-    let (walker, mut holder, ender) = three(&rt, shared, first)?;
-    let Some(0) = hold(shared, &mut holder, HELD) else {
-        panic!(rt; "the id is not held");
-    };
-    let waiting = &rt;
-    let ((walker, answer), freed) = thread::join(
-        &rt,
-        move ||
-            requires { IsFit shared.now walker × IsHolder shared.now HELD holder }
-        { walk_past(waiting, shared, walker, holder) },
-        move ||
-            requires { IsFit shared.now ender }
-        { end(waiting, shared, ender) },
-    );
-    let is_freed = matches!(freed, Some(UnregisterAnswer::Freed { id: 1, .. }));
-    let walked = (answer, is_freed, outcomes(&walker));
     let gone = Outcome::Gone {
         number: 1,
         then: GoneThen::Root,
@@ -121,9 +168,8 @@ fn a_root_walk_passes_a_dying_id(rt: HostRuntime) -> Result<(), Fail> {
         version: 0,
     };
     let outcomes = (Some(1), Some(gone), Some(empty));
-    assert_eq!(rt;
-        walked,
-        (Some(WalkAnswer::Walked { freed: 1 }), true, outcomes)
-    );
+    let walked = (Some(WalkAnswer::Walked { freed: 1 }), outcomes);
+    let beside = walked_beside(&rt, rt.alloc())?;
+    assert_eq!(rt; beside, (walked, true));
     Ok(())
 }
