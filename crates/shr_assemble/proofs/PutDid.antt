@@ -3,7 +3,10 @@ use Rattle.shr_assemble.proofs.Common.{◌≡◌, ℕ, ◌+◌, ◌<◌, inl, in
 use Rattle.std.proofs.Common.{lt-ltb}
 use Rattle.shr_base.specs.declared.replies.Reply.TheVariants as reply
 use Rattle.shr_base.specs.declared.replies.Spent.TheVariants as spent
-use Rattle.shr_node.specs.declared.answers.NodeAdd.TheVariants as add
+use Rattle.shr_node.specs.declared.answers.NodeAnswer.{NodeAnswer}
+use Rattle.shr_node.specs.declared.answers.NodeAnswer.TheVariants as answers
+use Rattle.shr_cache.specs.Puts.{Offers}
+use Rattle.shr_cache.specs.Replies.{ListReplies, add_says, answer_reply}
 use Rattle.shr_reclaim.specs.declared.answers.Admission.TheVariants as admission
 use Rattle.shr_report.specs.Parts as report
 use Rattle.shr_charge.specs.Views as charge
@@ -30,6 +33,20 @@ filled_bit k items new none some low = subst (λ (l : List Object). 0 < times k 
   one : 0 < total (only k) (k ∷ [])
   one = omega (arith, only_yes k k refl)
 
+-- the list that was offered an object told that it was added
+told_added : (so : NodeAnswer Bool → Type 0) (c : At) → ListReplies add_says so (reply.Added c) → so (answers.Told c true)
+told_added so c h = each h.answer h.told h.did where
+  each : (a : NodeAnswer Bool) → reply.Added c ≡ answer_reply add_says a → so a → so (answers.Told c true)
+  each (answers.Told d true) e o = let same : c ≡ d = cc in subst (λ (y : At). so (answers.Told y true)) (sym same) o
+  each (answers.Told d false) e o = absurd (cc)
+  each (answers.Worn w) e o = absurd (cc)
+  each answers.Memory e o = absurd (cc)
+
+-- it held none of its key
+absent : (b : Bool) → not b ≡ true → b ≡ false
+absent true e = absurd (cc)
+absent false e = refl
+
 module _ (x : Shared) (table : IsTableOf x) (by : Serial) (to : Target) (key value : List ℕ) (within : IsObjectWithin (content_of x.script) to key) where
   pub inside : to.group < length (parents_of x.script)
   inside = group_in x to.group within.in_group
@@ -46,19 +63,19 @@ module _ (x : Shared) (table : IsTableOf x) (by : Serial) (to : Target) (key val
   added f c s t h =
       let r : Reply = reply.Added c in
       let a : Answered = record { reply = r; found = Some f } in
-      let o = h.offered in
+      let o = told_added (λ answer. Offers x to.node to.decl object f answer h.charged t) c h.offered in
       let e : Listed → Entry = λ old. add_entry old object in
-      let call : View → View → Type 0 = λ v w. AddGives (shape_of x.core) v f.id to.node object (add.Added c) w in
-      let so : List Object → Type 0 = λ items. holds to.group key items ≡ false in
+      let call : View → View → Type 0 = λ v w. AddGives (shape_of x.core) v f.id to.node object (answers.Told c true) w in
+      let so : List Object → Type 0 = λ items. not (holds to.group key items) ≡ true in
       let acts = o.calls.made in
       let m : Made = made_entry x to.decl f call h.charged o.held t o.holds o.calls table to.node within.on_node to.group inside c so e acts in
       let set : List ℕ = made_bits x to.decl f call h.charged o.held t o.holds o.calls table to.node within.on_node to.group inside c so e acts in
       let q : Work = offering to.decl f o.holds.answers.gains.words (m ∷ []) set in
-      let is : e acts.old ≡ Add by to.group true key value = ap (λ b. Add by to.group (not b) key value) acts.before in
+      let is : e acts.old ≡ Add by to.group true key value = ap (λ b. Add by to.group b key value) acts.before in
       let d = adm x table by to key value inside a admission.Charged s h.charged t h.asks in
       let v : Work = first x table by to key value inside a admission.Charged s h.charged t h.asks in
       let same = made_same x to.decl f call h.charged o.held t o.holds o.calls table to.node within.on_node to.group inside c so e acts in
-      let grew : step [] acts.old.items (e acts.old) ≡ acts.old.items ++ object ∷ [] = ap (λ b. if b then acts.old.items else acts.old.items ++ object ∷ []) acts.before in
+      let grew : step [] acts.old.items (e acts.old) ≡ acts.old.items ++ object ∷ [] = ap (λ b. if b then acts.old.items else acts.old.items ++ object ∷ []) (absent (holds to.group key acts.old.items) acts.before) in
       noted_did x table by to key value within.on_node inside f r s h.charged t t h.asks call o.held o.holds o.calls q (path_of x.charge.shape.parents.items to.group) c so e acts (record {
         does = brings_of (offering_does x to.decl f call h.charged o.held t o.holds o.calls (m ∷ []) set acts.gains);
         tail = offering_tail to.decl f o.holds.answers.gains.words (m ∷ []) set (λ place worker n. not_scanned (m.place == place));

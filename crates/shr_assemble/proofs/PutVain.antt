@@ -2,8 +2,10 @@
 use Rattle.shr_assemble.proofs.Common.{◌≡◌, ℕ, ◌+◌, ◌<◌, ◌≤◌, inl, inr, Bool, true, false, not, ◌==◌, List, [], ◌∷◌, ◌++◌, length, length-append, map, refl, sym, ap, subst, ◌∙◌, arith, Some, None, sum_by, if◌then◌else◌, append-nil, append_cancel_left, none-some, Entry, Add, Object, At, Serial, Target, Answered, Found, Reply, Spent, Command, fresh, holds, rounds_from, is_live_decl, job_of, Each, Each-none, View, nothing, Adds, Made, Loaded, shape_of, add_entry, Listed, AddGives, parents_of, WorkerState, Work, then_work, Does, Shared, added_below, made_freed_below, MayMakeEntry, IsListFilled, Step, PutsInVain, HoldsCache, Calls, Gains, Uncharges, Asks, Family, over_at, refusals_of, was_charged, charged, pool_told, pool_made, pool_seen, cited_by, IsReply, IsCausedBy, cond, scans_made, take_all}
 use Rattle.shr_base.specs.declared.replies.Reply.TheVariants as reply
 use Rattle.shr_base.specs.declared.replies.Spent.TheVariants as spent
-use Rattle.shr_node.specs.declared.answers.NodeAdd.{NodeAdd}
-use Rattle.shr_node.specs.declared.answers.NodeAdd.TheVariants as add
+use Rattle.shr_node.specs.declared.answers.NodeAnswer.{NodeAnswer}
+use Rattle.shr_node.specs.declared.answers.NodeAnswer.TheVariants as answers
+use Rattle.shr_cache.specs.Puts.{Offers}
+use Rattle.shr_cache.specs.Replies.{add_says, answer_reply}
 use Rattle.shr_reclaim.specs.declared.answers.Admission.TheVariants as admission
 use Rattle.shr_report.specs.WalksLawful as walks
 use Rattle.shr_lawful.proofs.Gathering.{among_left, among_right}
@@ -110,7 +112,7 @@ module _ (x : Shared) (table : IsTableOf x) (by : Serial) (to : Target) (key val
   -- ---- it was found
 
   -- what an add calls
-  abbrev adds : Found → NodeAdd → View → View → Type 0
+  abbrev adds : Found → NodeAnswer Bool → View → View → Type 0
   adds f answer v w = AddGives (shape_of x.core) v f.id to.node object answer w
 
   abbrev adding : Listed → Entry
@@ -151,14 +153,14 @@ module _ (x : Shared) (table : IsTableOf x) (by : Serial) (to : Target) (key val
       does = offering_does x to.decl f call charged_at held refused holds calls made set g
 
   module _ (f : Found) (s t : WorkerState) where
-    exists : (c : At) → PutsInVain x by to.group to.node to.decl object (Some f) (reply.Exists c) s t → HasDid x.script by Command_of (record { reply = reply.Exists c; found = Some f }) s t
-    exists c h =
-        let r : Reply = reply.Exists c in let o = h.puts.offered in let acts = o.calls.made in
-        let call : View → View → Type 0 = adds f (add.Exists c) in
-        let so : List Object → Type 0 = λ items. holds to.group key items ≡ true in
+    exists : (c : At) (h : PutsInVain x by to.group to.node to.decl object (Some f) (reply.Exists c) s t) → Offers x to.node to.decl object f (answers.Told c false) h.puts.charged h.refused → HasDid x.script by Command_of (record { reply = reply.Exists c; found = Some f }) s t
+    exists c h o =
+        let r : Reply = reply.Exists c in let acts = o.calls.made in
+        let call : View → View → Type 0 = adds f (answers.Told c false) in
+        let so : List Object → Type 0 = λ items. not (holds to.group key items) ≡ false in
         let m : Made = made_entry x to.decl f call h.puts.charged o.held h.refused o.holds o.calls table to.node on to.group inside c so adding acts in
         let set : List ℕ = made_bits x to.decl f call h.puts.charged o.held h.refused o.holds o.calls table to.node on to.group inside c so adding acts in
-        let is : adding acts.old ≡ Add by to.group false key value = ap (λ b. Add by to.group (not b) key value) acts.before in
+        let is : adding acts.old ≡ Add by to.group false key value = ap (λ b. Add by to.group b key value) acts.before in
         noted_did x table by to key value on inside f r s h.puts.charged h.refused t h.puts.asks call o.held o.holds o.calls (then_work (offering to.decl f o.holds.answers.gains.words (m ∷ []) set) (uncharging h.back.ops)) [] c so adding acts
         (is_offered f r s h.puts.charged h.refused t h.puts.asks h.back call o.held o.holds o.calls (m ∷ []) set acts.gains (λ place worker n. not_scanned (m.place == place)) (λ n. refl) (filled_by m)
         (record { over = λ g. refl; other = λ g operation usage e. cc; plain = λ rounds. refl; charged_at_last = refl; uncharged = λ g. refl; unmade = refl }) refl
@@ -166,12 +168,12 @@ module _ (x : Shared) (table : IsTableOf x) (by : Serial) (to : Target) (key val
         (λ told. told) (Add by to.group false key value) is (λ family cites. cites) refl (λ e above empty. absurd (cc))
 
     -- the first open list was full
-    worn : (w : Spent) → PutsInVain x by to.group to.node to.decl object (Some f) (reply.Worn w) s t → HasDid x.script by Command_of (record { reply = reply.Worn w; found = Some f }) s t
-    worn (spent.Lookups id number) h = absurd h.puts.offered.calls.made
-    worn (spent.Charges charges uncharges) h = absurd h.puts.offered.calls.made
-    worn (spent.List place entries items) h =
-        let r : Reply = reply.Worn (spent.List place entries items) in let o = h.puts.offered in let full = o.calls.made in
-        let call : View → View → Type 0 = adds f (add.Worn (spent.List place entries items)) in
+    worn : (w : Spent) (h : PutsInVain x by to.group to.node to.decl object (Some f) (reply.Worn w) s t) → Offers x to.node to.decl object f (answers.Worn w) h.puts.charged h.refused → HasDid x.script by Command_of (record { reply = reply.Worn w; found = Some f }) s t
+    worn (spent.Lookups id number) h o = absurd o.calls.made
+    worn (spent.Charges charges uncharges) h o = absurd o.calls.made
+    worn (spent.List place entries items) h o =
+        let r : Reply = reply.Worn (spent.List place entries items) in let full = o.calls.made in
+        let call : View → View → Type 0 = adds f (answers.Worn (spent.List place entries items)) in
         let more = grown (holds to.group key full.old.items) full.old.items (object ∷ []) in let long = full.full.worn.items_then in
         silent_did x table by to key value on inside f r s h.puts.charged h.refused t h.puts.asks call o.held o.holds o.calls (then_work (offering to.decl f o.holds.answers.gains.words [] []) (uncharging h.back.ops)) [] [] [] full.full.gains
         (is_offered f r s h.puts.charged h.refused t h.puts.asks h.back call o.held o.holds o.calls [] [] full.full.gains (λ place' worker n. refl) (λ n. refl) (Each-none (IsListFilled []))
@@ -181,10 +183,10 @@ module _ (x : Shared) (table : IsTableOf x) (by : Serial) (to : Target) (key val
         (inr (inl (record { most = omega (arith, more, long); put = refl; refused = λ c e. cc })))))
         refl (λ family. tt) refl
 
-    lacking : PutsInVain x by to.group to.node to.decl object (Some f) reply.Memory s t → HasDid x.script by Command_of (record { reply = reply.Memory; found = Some f }) s t
-    lacking h =
-        let o = h.puts.offered in let gains = o.calls.made.free.gains in
-        let call : View → View → Type 0 = adds f add.Memory in
+    lacking : (h : PutsInVain x by to.group to.node to.decl object (Some f) reply.Memory s t) → Offers x to.node to.decl object f answers.Memory h.puts.charged h.refused → HasDid x.script by Command_of (record { reply = reply.Memory; found = Some f }) s t
+    lacking h o =
+        let gains = o.calls.made.free.gains in
+        let call : View → View → Type 0 = adds f answers.Memory in
         let d = adm x table by to key value inside (record { reply = reply.Memory; found = Some f }) admission.Charged s h.puts.charged t h.puts.asks in
         silent_did x table by to key value on inside f reply.Memory s h.puts.charged h.refused t h.puts.asks call o.held o.holds o.calls (then_work (offering to.decl f o.holds.answers.gains.words [] []) (uncharging h.back.ops)) [] [] [] gains
         (is_offered f reply.Memory s h.puts.charged h.refused t h.puts.asks h.back call o.held o.holds o.calls [] [] gains (λ place worker n. refl) (λ n. refl) (Each-none (IsListFilled []))
@@ -192,12 +194,14 @@ module _ (x : Shared) (table : IsTableOf x) (by : Serial) (to : Target) (key val
         (begins_prefix (map job_of d.work.walks) [] (rounds_from (parents_of x.script) x.script.nodes 12 d.rounds) (sym (append-nil (map job_of d.work.walks) ∙ d.made))) (λ n. refl) tt)
         refl (λ family. tt) refl
 
+    each : (a : NodeAnswer Bool) → IsVain (answer_reply add_says a) → (h : PutsInVain x by to.group to.node to.decl object (Some f) (answer_reply add_says a) s t) → Offers x to.node to.decl object f a h.puts.charged h.refused → HasDid x.script by Command_of (record { reply = answer_reply add_says a; found = Some f }) s t
+    each (answers.Told c true) vain h o = absurd vain
+    each (answers.Told c false) vain h o = exists c h o
+    each (answers.Worn w) vain h o = worn w h o
+    each answers.Memory vain h o = lacking h o
+
     pub vain_found : (r : Reply) → IsVain r → PutsInVain x by to.group to.node to.decl object (Some f) r s t → HasDid x.script by Command_of (record { reply = r; found = Some f }) s t
-    vain_found (reply.Exists c) vain h = exists c h
-    vain_found (reply.Worn w) vain h = worn w h
-    vain_found reply.Memory vain h = lacking h
-    vain_found (reply.Added c) vain h = absurd vain
-    vain_found r vain h = absurd h.puts.offered
+    vain_found r vain h = let said = h.puts.offered in subst (λ (y : Reply). IsVain y → (h : PutsInVain x by to.group to.node to.decl object (Some f) y s t) → Offers x to.node to.decl object f said.answer h.puts.charged h.refused → HasDid x.script by Command_of (record { reply = y; found = Some f }) s t) (sym said.told) (each said.answer) vain h said.did
 
   pub vain_unfound : (r : Reply) (s t : WorkerState) → PutsInVain x by to.group to.node to.decl object None r s t → HasDid x.script by Command_of (without r) s t
   vain_unfound (reply.NoCache entry) s t h = no_cache s t entry h

@@ -10,6 +10,8 @@ use Rattle.shr_assemble.proofs.Filling.{IsSet, filled_by, set_filled, set_none}
 use Rattle.shr_assemble.proofs.FirstLists.{first_for}
 use Rattle.shr_lawful.proofs.Listed.{contains_among}
 use Rattle.shr_assemble.proofs.QuietSteps.{step_of, HasDid, IsCalm, still_charges, still_pool, still_tree, IsToldOnce, quiet_did, AreTables, tree_is, loading, gaining, does_load, does_gain, knows_online, online_apart, on_list, on_list_does, on_list_online, found_entry, found_by, known_is, made_is, known_before, hierarchy_is, knows_unmade, offered_made}
+use Rattle.shr_node.specs.declared.answers.NodeAnswer.{NodeAnswer}
+use Rattle.shr_cache.specs.Replies.{AsksList, ListReplies, answer_reply}
 pub use Rattle.shr_walk.proofs.Doing.{called_then}
 
 -- what a call does it brings
@@ -212,6 +214,16 @@ module _ (x : Shared) (tables : AreTables x) (by : Serial) (c : Command) (group 
   refused_did (reply.Worn worn) s t h = worn_did worn s t h
   refused_did (reply.NotMade g) s t h = not_made_did g s t h.0 h.1
   refused_did r s t h = absurd h
+
+  -- one that is told what a list answered
+  pub replied_did : {A : Type 0} (says : At → A → Reply) (so : NodeAnswer A → Type 0) (f : Found) (r : Reply) (s t : WorkerState) → ((a : NodeAnswer A) → so a → HasDid x.script by c (record { reply = answer_reply says a; found = Some f }) s t) → ListReplies says so r → HasDid x.script by c (record { reply = r; found = Some f }) s t
+  replied_did says so f r s t each h = subst (λ (y : Reply). HasDid x.script by c (record { reply = y; found = Some f }) s t) (sym h.told) (each h.answer h.did)
+
+  -- one that is no more than a call on a list
+  pub asked_did : {A : Type 0} (says : At → A → Reply) (gives : ℕ → View → NodeAnswer A → View → Type 0) (found : Option Found) (r : Reply) (s t : WorkerState) → ((f : Found) (a : NodeAnswer A) → OnCache x group decl f (λ v w. gives f.id v a w) s t → HasDid x.script by c (record { reply = answer_reply says a; found = Some f }) s t)
+      → AsksList x group decl says gives found r s t → HasDid x.script by c (record { reply = r; found = found }) s t
+  asked_did says gives None r s t each h = refused_did r s t h
+  asked_did says gives (Some f) r s t each h = replied_did says (λ a. OnCache x group decl f (λ v w. gives f.id v a w) s t) f r s t (each f) h
 
 -- ---- a list that was called after a find
 

@@ -1,22 +1,12 @@
 -- What a put did, by the reply that tells of it.
-use Rattle.shr_cache.proofs.Common.{◌≡◌, ℕ, List, true, false, Object, Serial, Found, Reply, NodeAdd, fresh, same_for, same_then, Acting, IsSame, Shared, WorkerState, Uncharges, OfferedFrom, IsStill, LoadsWord, MayCharge, Offers, OfferedAs, Puts, PutAs}
-use Rattle.std.specs.Prelude.{Option, Some, None}
+use Rattle.shr_cache.proofs.Common.{◌≡◌, ℕ, List, true, false, Object, Serial, Found, Reply, None, Option, Some, fresh, same_for, same_then, Acting, IsSame, Shared, WorkerState, Uncharges, IsStill, LoadsWord, MayCharge, OfferedAs, Puts, PutAs}
 use Rattle.shr_base.specs.declared.places.Target.{Target}
 use Rattle.shr_base.specs.declared.replies.Reply.TheVariants as reply
 use Rattle.shr_base.specs.declared.replies.Spent.TheVariants as spent
-use Rattle.shr_node.specs.declared.answers.NodeAdd.TheVariants as add
 use Rattle.shr_charge.specs.declared.answers.GroupState.TheVariants.{Online}
 use Rattle.shr_reclaim.specs.Admitting.{AdmissionGives}
 use Rattle.shr_reclaim.specs.declared.answers.Admission.TheVariants.{Charged}
-use Rattle.shr_cache.specs.Replies.{add_reply, has_added}
-
-module _ (x : Shared) (node decl : ℕ) (o : Object) where
-  -- what the list said of the object
-  pub offered : (f : Found) (answer : NodeAdd) (s t : WorkerState) → Offers x node decl o f answer s t → OfferedFrom x node decl o f (add_reply answer) s t
-  offered f (add.Added at) s t h = h
-  offered f (add.Exists at) s t h = h
-  offered f (add.Worn worn) s t h = h
-  offered f add.Memory s t h = h
+use Rattle.shr_cache.specs.Replies.{has_added}
 
 module _ (x : Shared) (by : Serial) (group node decl : ℕ) (o : Object) where
   -- an object that wasn't added is charged no more

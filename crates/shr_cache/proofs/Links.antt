@@ -1,10 +1,12 @@
 -- Each step from the seats before it to those after it.
-use Rattle.shr_cache.proofs.Common.{◌≡◌, ◌<◌, ℕ, List, ap, sym, subst, ◌∙◌, shape_of, Serial, Found, View, view_of, Shared, WorkerState, state_of, OnCache, Uncharges, IsFit, AreHolding, Opens, Calls}
+use Rattle.shr_cache.proofs.Common.{◌≡◌, ◌<◌, ℕ, List, ap, sym, subst, ◌∙◌, shape_of, Serial, Found, Reply, Some, View, NodeAnswer, AsksList, answer_reply, view_of, Shared, WorkerState, state_of, OnCache, Uncharges, IsFit, AreHolding, Opens, Calls}
 use Rattle.shr_base.specs.Kept.{Kept}
 use Rattle.shr_base.specs.declared.journals.UseStep.{UseStep}
+use Rattle.shr_base.specs.declared.places.At.{At}
 use Rattle.shr_base.specs.declared.places.Target.{Target}
 use Rattle.shr_model.specs.Groups.{path_of}
 use Rattle.shr_seats.specs.Shapes.{groups_in}
+use Rattle.shr_seats.specs.declared.shape.Shape.{Shape}
 use Rattle.shr_core.specs.Parts.{Claims}
 use Rattle.shr_core.specs.declared.table.Core.{Core}
 use Rattle.shr_core.specs.Seats.{Seated}
@@ -62,6 +64,16 @@ asked x group decl f call s opened seat last opens made back = record {
   online = opens.online;
   holds = opens.holds;
   calls = called call opened seat last made back;
+}
+
+-- and what the list answered is the reply
+pub list_asked : {A : Type 0} (says : At → A → Reply) (gives : Shape → ℕ → View → NodeAnswer A → View → Type 0) (x : Shared) (group decl : ℕ) (f : Found) (answer : NodeAnswer A) (r : Reply) (s : WorkerState) (opened : Seats) (seat last : Seated)
+    → Opens x group decl f s (state_of opened) → opened.cache.core.core ≡ x.core → gives (shape_of opened.cache.core.core) f.id (view_of opened.cache.core) answer (view_of seat) → last ≡ record seat { view = with_put (view_of seat) } → r ≡ answer_reply says answer
+    → AsksList x group decl says (gives (shape_of x.core)) (Some f) r s (state_of (with_core opened last))
+list_asked says gives x group decl f answer r s opened seat last opens core made back told = record {
+  answer = answer;
+  told = told;
+  did = asked x group decl f (λ v w. gives (shape_of x.core) f.id v answer w) s opened seat last opens (subst (λ (k : Core). gives (shape_of k) f.id (view_of opened.cache.core) answer (view_of seat)) core made) back;
 }
 
 -- the place of a call is one of the seat's core

@@ -1,37 +1,21 @@
--- What was done, by the reply that tells of it.
-use Rattle.shr_cache.proofs.Common.{◌≡◌, ℕ, Bool, true, false, List, Serial, Found, NodeLook, NodeDrop, NodePin, Shared, WorkerState, Uncharges, GotFrom, PinnedFrom, DroppedFrom, LooksUp, Pins, Drops}
-use Rattle.shr_node.specs.declared.answers.NodeLook.TheVariants as look
-use Rattle.shr_node.specs.declared.answers.NodeDrop.TheVariants as drop
-use Rattle.shr_node.specs.declared.answers.NodePin.TheVariants as pin
-use Rattle.shr_cache.specs.Replies.{look_reply, pin_reply, drop_reply, has_dropped}
+-- What a del did, by whether the object was dropped.
+use Rattle.shr_cache.proofs.Common.{◌≡◌, ℕ, Bool, true, false, List, Serial, Found, Reply, None, Option, Some, sym, subst, refl, Shared, WorkerState, Uncharges, MayCharge, AsksToDrop, DroppedAs, UnchargesIf}
+use Rattle.shr_base.specs.declared.replies.Reply.TheVariants as reply
+use Rattle.shr_base.specs.declared.replies.Spent.TheVariants as spent
+use Rattle.shr_cache.specs.Replies.{has_dropped}
 
-module _ (x : Shared) (by : Serial) (group node decl : ℕ) (key : List ℕ) (f : Found) (s t : WorkerState) where
-  -- what the list said of a lookup
-  pub got : (answer : NodeLook) → LooksUp x by group node decl key f answer s t → GotFrom x by group node decl key f (look_reply answer) s t
-  got (look.Hit at value) h = h
-  got (look.Miss at) h = h
-  got (look.Worn worn) h = h
-  got look.Memory h = h
+module _ (x : Shared) (by : Serial) (group node decl : ℕ) (key : List ℕ) where
+  -- the list was asked, and the group uncharged if that was due
+  asked_so : (found : Option Found) (r : Reply) (s u t : WorkerState) → MayCharge s → AsksToDrop x by group node decl key found r s u → UnchargesIf x by group (has_dropped r) u t → DroppedAs x by group node decl key found r s t
+  asked_so None (reply.Worn (spent.Charges charges uncharges)) s u t may h back = absurd h.misses.answers.worn
+  asked_so None reply.Memory s u t may h back = absurd h
+  asked_so None r s u t may h back = record { charges = may; after = u; asked = h; uncharged = back }
+  asked_so (Some f) r s u t may h back = record { charges = may; after = u; asked = h; uncharged = back }
 
-  -- what the list said of a pin
-  pub pinned : (p : Bool) (answer : NodePin) → Pins x by group node decl key p f answer s t → PinnedFrom x by group node decl key p f (pin_reply answer) s t
-  pinned p (pin.Done at) h = h
-  pinned p (pin.Miss at) h = h
-  pinned p (pin.Worn worn) h = h
-  pinned p pin.Memory h = h
-
-  -- what wasn't dropped
-  pub stayed : (answer : NodeDrop) → has_dropped answer ≡ false → Drops x by group node decl key f answer s t → DroppedFrom x by group node decl key f (drop_reply answer) s t
-  stayed (drop.Dropped at) e h = cc
-  stayed (drop.Pinned at) e h = h
-  stayed (drop.Miss at) e h = h
-  stayed (drop.Worn worn) e h = h
-  stayed drop.Memory e h = h
+  -- what wasn't dropped stays charged
+  pub stayed : (found : Option Found) (r : Reply) (s t : WorkerState) → has_dropped r ≡ false → MayCharge s → AsksToDrop x by group node decl key found r s t → DroppedAs x by group node decl key found r s t
+  stayed found r s t e may h = asked_so found r s t t may h (subst (λ (b : Bool). UnchargesIf x by group b t t) (sym e) refl)
 
   -- what was dropped is uncharged
-  pub dropped : (u : WorkerState) (answer : NodeDrop) → has_dropped answer ≡ true → Drops x by group node decl key f answer s u → Uncharges x by group u t → DroppedFrom x by group node decl key f (drop_reply answer) s t
-  dropped u (drop.Dropped at) e h back = record { dropped = u; drops = h; uncharges = back }
-  dropped u (drop.Pinned at) e h back = cc
-  dropped u (drop.Miss at) e h back = cc
-  dropped u (drop.Worn worn) e h back = cc
-  dropped u drop.Memory e h back = cc
+  pub dropped : (found : Option Found) (r : Reply) (s u t : WorkerState) → has_dropped r ≡ true → MayCharge s → AsksToDrop x by group node decl key found r s u → Uncharges x by group u t → DroppedAs x by group node decl key found r s t
+  dropped found r s u t e may h back = asked_so found r s u t may h (subst (λ (b : Bool). UnchargesIf x by group b u t) (sym e) back)

@@ -1,5 +1,5 @@
 -- What a put does, by its answer.
-use Rattle.std.specs.Prelude.{◌≡◌, ℕ, List, Option, None, Some}
+use Rattle.std.specs.Prelude.{◌≡◌, ℕ, Bool, List, Option, None, Some}
 use Rattle.shr_base.specs.declared.objects.Object.{Object}
 use Rattle.shr_base.specs.declared.places.Serial.{Serial}
 use Rattle.shr_base.specs.declared.replies.Answered.{Answered}
@@ -10,8 +10,7 @@ use Rattle.shr_base.specs.declared.replies.Spent.TheVariants as spent
 use Rattle.shr_model.specs.Objects.{fresh}
 use Rattle.shr_core.specs.Seats.{shape_of}
 use Rattle.shr_charge.specs.declared.answers.GroupState.TheVariants.{Online, Offline, NotMade}
-use Rattle.shr_node.specs.declared.answers.NodeAdd.{NodeAdd}
-use Rattle.shr_node.specs.declared.answers.NodeAdd.TheVariants as add
+use Rattle.shr_node.specs.declared.answers.NodeAnswer.{NodeAnswer}
 use Rattle.shr_node.specs.Answers.{AddGives}
 use Rattle.shr_reclaim.specs.declared.answers.Admission.{Admission}
 use Rattle.shr_reclaim.specs.declared.answers.Admission.TheVariants as admission
@@ -19,6 +18,7 @@ use Rattle.shr_reclaim.specs.Admitting.{AdmissionGives}
 use Rattle.shr_walk.specs.declared.seats.Shared.{Shared}
 use Rattle.shr_walk.specs.State.{WorkerState}
 use Rattle.shr_opening.specs.Opening.{LoadsWord, HoldsCache, MissesAs, Calls, Uncharges, MayCharge, IsWorkerSpent}
+use Rattle.shr_cache.specs.Replies.{ListReplies, add_says}
 
 -- the group was online, and then its charge was asked for with this answer, with rounds of reclaim
 -- where it was refused
@@ -31,26 +31,18 @@ pub record Asks (x : Shared) (by : Serial) (group : ℕ) (answer : Admission)
 
 -- the cache was found, the object was offered to its list with this answer, and the reference was
 -- given back
-pub record Offers (x : Shared) (node decl : ℕ) (o : Object) (f : Found) (answer : NodeAdd)
+pub record Offers (x : Shared) (node decl : ℕ) (o : Object) (f : Found) (answer : NodeAnswer Bool)
     (s t : WorkerState) : Type 0 where
   pub held : WorkerState
   pub holds : HoldsCache x decl f s held
   pub calls : Calls (λ v w. AddGives (shape_of x.core) v f.id node o answer w) held t
 
--- what offering an object did where the cache was found, by the reply
-abbrev pub OfferedFrom : Shared → ℕ → ℕ → Object → Found → Reply → WorkerState → WorkerState
-    → Type 0
-OfferedFrom x node decl o f (reply.Added at) s t = Offers x node decl o f (add.Added at) s t
-OfferedFrom x node decl o f (reply.Exists at) s t = Offers x node decl o f (add.Exists at) s t
-OfferedFrom x node decl o f (reply.Worn spent) s t = Offers x node decl o f (add.Worn spent) s t
-OfferedFrom x node decl o f reply.Memory s t = Offers x node decl o f add.Memory s t
-OfferedFrom x node decl o f r s t = ⊥
-
 -- what offering an object did, by whether the cache was found
 abbrev pub OfferedAs : Shared → ℕ → ℕ → Object → Option Found → Reply → WorkerState → WorkerState
     → Type 0
 OfferedAs x node decl o None r s t = MissesAs x decl r s t
-OfferedAs x node decl o (Some f) r s t = OfferedFrom x node decl o f r s t
+OfferedAs x node decl o (Some f) r s t =
+    ListReplies add_says (λ answer. Offers x node decl o f answer s t) r
 
 -- the charge was made, and then the object was offered, with this answer
 pub record Puts (x : Shared) (by : Serial) (group node decl : ℕ) (o : Object) (found : Option Found)

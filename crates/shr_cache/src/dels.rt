@@ -5,14 +5,15 @@ ghost use Rattle.shr_core.specs.Seats.{shape_of};
 ghost use Rattle.shr_walk.specs.Acting.{IsSame};
 ghost use Rattle.shr_opening.specs.Opening.{IsTargetOf};
 ghost use Rattle.shr_cache.specs.Charges.{KeepsCharge};
-ghost use Rattle.shr_cache.specs.Dels.{AskedAs, DelGives};
-ghost use Rattle.shr_cache.specs.Replies.{drop_reply, has_dropped};
+ghost use Rattle.shr_cache.specs.Dels.{AsksToDrop, DelGives};
+ghost use Rattle.shr_cache.specs.Replies.{answer_reply, drop_says, has_dropped};
 
 use crate::charges::uncharge;
+use shr_base::journals::DropKind;
 use shr_base::places::Target;
-use shr_base::replies::{Answered, Found, Reply};
+use shr_base::replies::{Answered, Reply};
 use shr_base::text::Text;
-use shr_node::answers::NodeDrop;
+use shr_node::answers::NodeAnswer;
 use shr_node::tenants::{TenantCall, drop_key};
 use shr_opening::opening::{Opened, open};
 use shr_opening::replies::unfound;
@@ -20,40 +21,38 @@ use shr_walk::worker::Worker;
 use std::sync::Wait;
 
 // What a list's answer to a drop is as a reply.
-fn reply_of(answer: NodeDrop) -> Reply
-    ensures { result ≡ drop_reply answer }
+fn reply_of(answer: NodeAnswer<DropKind>) -> Reply
+    ensures { result ≡ answer_reply drop_says answer }
 {
     match answer {
-        NodeDrop::Dropped { at } => Reply::Dropped { at },
-        NodeDrop::Pinned { at } => Reply::Pinned { at },
-        NodeDrop::Miss { at } => Reply::Miss { at },
-        NodeDrop::Worn { spent } => Reply::Worn { spent },
-        NodeDrop::Memory => Reply::Memory,
+        NodeAnswer::Told { at, told } => match told {
+            DropKind::Dropped => Reply::Dropped { at },
+            DropKind::Pinned => Reply::Pinned { at },
+            DropKind::Miss => Reply::Miss { at },
+        },
+        NodeAnswer::Worn { spent } => Reply::Worn { spent },
+        NodeAnswer::Memory => Reply::Memory,
     }
 }
 
-// Whether the object was dropped.
-fn is_dropped(answer: &NodeDrop) -> bool
-    ensures { result ≡ has_dropped answer.now }
+// Whether a reply says that the object was dropped.
+fn is_dropped(reply: &Reply) -> bool
+    ensures { result ≡ has_dropped reply.now }
 {
-    matches!(answer, NodeDrop::Dropped { at: _ })
+    matches!(reply, Reply::Dropped { at: _ })
 }
 
 // Finds the cache and asks its list for the object, to be dropped.
-fn take_out<R: Wait>(
-    worker: &mut Worker<'_, R>,
-    target: Target,
-    key: &Text,
-) -> Result<(NodeDrop, Found), Reply>
+fn take_out<R: Wait>(worker: &mut Worker<'_, R>, target: Target, key: &Text) -> Answered
     requires target { IsTargetOf (shape_of worker.old.shared.core) target }
-    ensures asked { AskedAs worker.old.shared worker.old.by target.group target.node target.decl
-        key.now result worker.old.state worker.new.state }
+    ensures asked { AsksToDrop worker.old.shared worker.old.by target.group target.node target.decl
+        key.now result.found result.reply worker.old.state worker.new.state }
     ensures kept { KeepsCharge worker.old worker.new }
 {
     let Target { group, node, decl } = target;
     let found = match open(worker.rt, worker.shared, &mut worker.seats, group, decl) {
         Opened::Held { found } => found,
-        Opened::Refused { reply } => return Err(reply),
+        Opened::Refused { reply } => return unfound(reply),
     };
     let seat = &mut worker.seats.cache.core;
     let call = TenantCall {
@@ -64,7 +63,10 @@ fn take_out<R: Wait>(
     };
     let answer = drop_key(worker.rt, seat, call, key);
     seat.put();
-    Ok((answer, found))
+    Answered {
+        reply: reply_of(answer),
+        found: Some(found),
+    }
 }
 
 /// Takes an object out by its key, if it is there and not pinned, and uncharges the group that it was born in, which is
@@ -89,19 +91,10 @@ pub fn del<R: Wait>(worker: &mut Worker<'_, R>, target: Target, key: &Text) -> A
     if worker.reserve_uses(depth).is_err() {
         return unfound(Reply::Memory);
     }
-    let (answer, found) = match take_out(worker, target, key) {
-        Ok(asked) => asked,
-        Err(reply) => return unfound(reply),
-    };
-    if !is_dropped(&answer) {
-        return Answered {
-            reply: reply_of(answer),
-            found: Some(found),
-        };
+    let answered = take_out(worker, target, key);
+    if !is_dropped(&answered.reply) {
+        return answered;
     }
     uncharge(worker, target.group);
-    Answered {
-        reply: reply_of(answer),
-        found: Some(found),
-    }
+    answered
 }

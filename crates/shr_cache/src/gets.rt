@@ -5,12 +5,12 @@ ghost use Rattle.shr_core.specs.Seats.{shape_of};
 ghost use Rattle.shr_walk.specs.Acting.{IsSame};
 ghost use Rattle.shr_opening.specs.Opening.{IsTargetOf};
 ghost use Rattle.shr_cache.specs.Gets.{GetGives};
-ghost use Rattle.shr_cache.specs.Replies.{look_reply};
+ghost use Rattle.shr_cache.specs.Replies.{answer_reply, look_says};
 
 use shr_base::places::Target;
 use shr_base::replies::{Answered, Reply};
 use shr_base::text::Text;
-use shr_node::answers::NodeLook;
+use shr_node::answers::NodeAnswer;
 use shr_node::tenants::{TenantCall, look};
 use shr_opening::opening::{Opened, open};
 use shr_opening::replies::unfound;
@@ -18,14 +18,17 @@ use shr_walk::worker::Worker;
 use std::sync::Wait;
 
 // What a list's answer to a lookup is as a reply.
-fn reply_of(answer: NodeLook) -> Reply
-    ensures { result ≡ look_reply answer }
+fn reply_of(answer: NodeAnswer<Option<Text>>) -> Reply
+    ensures { result ≡ answer_reply look_says answer }
 {
     match answer {
-        NodeLook::Hit { at, value } => Reply::Hit { at, value },
-        NodeLook::Miss { at } => Reply::Miss { at },
-        NodeLook::Worn { spent } => Reply::Worn { spent },
-        NodeLook::Memory => Reply::Memory,
+        NodeAnswer::Told {
+            at,
+            told: Some(value),
+        } => Reply::Hit { at, value },
+        NodeAnswer::Told { at, told: None } => Reply::Miss { at },
+        NodeAnswer::Worn { spent } => Reply::Worn { spent },
+        NodeAnswer::Memory => Reply::Memory,
     }
 }
 

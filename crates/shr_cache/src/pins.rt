@@ -5,12 +5,12 @@ ghost use Rattle.shr_core.specs.Seats.{shape_of};
 ghost use Rattle.shr_walk.specs.Acting.{IsSame};
 ghost use Rattle.shr_opening.specs.Opening.{IsTargetOf};
 ghost use Rattle.shr_cache.specs.Pins.{SetPinGives};
-ghost use Rattle.shr_cache.specs.Replies.{pin_reply};
+ghost use Rattle.shr_cache.specs.Replies.{answer_reply, pin_says};
 
 use shr_base::places::Target;
 use shr_base::replies::{Answered, Reply};
 use shr_base::text::Text;
-use shr_node::answers::NodePin;
+use shr_node::answers::NodeAnswer;
 use shr_node::tenants::{TenantCall, set_pin as pin_in_list};
 use shr_opening::opening::{Opened, open};
 use shr_opening::replies::unfound;
@@ -18,14 +18,14 @@ use shr_walk::worker::Worker;
 use std::sync::Wait;
 
 // What a list's answer to a pin is as a reply.
-fn reply_of(answer: NodePin) -> Reply
-    ensures { result ≡ pin_reply answer }
+fn reply_of(answer: NodeAnswer<bool>) -> Reply
+    ensures { result ≡ answer_reply pin_says answer }
 {
     match answer {
-        NodePin::Done { at } => Reply::Done { at },
-        NodePin::Miss { at } => Reply::Miss { at },
-        NodePin::Worn { spent } => Reply::Worn { spent },
-        NodePin::Memory => Reply::Memory,
+        NodeAnswer::Told { at, told: true } => Reply::Done { at },
+        NodeAnswer::Told { at, told: false } => Reply::Miss { at },
+        NodeAnswer::Worn { spent } => Reply::Worn { spent },
+        NodeAnswer::Memory => Reply::Memory,
     }
 }
 

@@ -7,7 +7,7 @@ ghost use Rattle.shr_walk.specs.Acting.{IsSame};
 ghost use Rattle.shr_opening.specs.Opening.{IsTargetOf};
 ghost use Rattle.shr_cache.specs.Charges.{KeepsCharge};
 ghost use Rattle.shr_cache.specs.Puts.{OfferedAs, PutGives};
-ghost use Rattle.shr_cache.specs.Replies.{add_reply, has_added};
+ghost use Rattle.shr_cache.specs.Replies.{answer_reply, add_says, has_added};
 
 use crate::charges::uncharge;
 use shr_base::objects::Object;
@@ -15,7 +15,7 @@ use shr_base::places::{Serial, Target};
 use shr_base::replies::{Answered, Reply};
 use shr_base::text::Text;
 use shr_charge::answers::GroupState;
-use shr_node::answers::NodeAdd;
+use shr_node::answers::NodeAnswer;
 use shr_node::tenants::add;
 use shr_opening::opening::{Opened, find_cache};
 use shr_opening::replies::unfound;
@@ -25,14 +25,14 @@ use shr_walk::worker::Worker;
 use std::sync::Wait;
 
 // What a list's answer to an object is as a reply.
-fn reply_of(answer: NodeAdd) -> Reply
-    ensures { result ≡ add_reply answer }
+fn reply_of(answer: NodeAnswer<bool>) -> Reply
+    ensures { result ≡ answer_reply add_says answer }
 {
     match answer {
-        NodeAdd::Added { at } => Reply::Added { at },
-        NodeAdd::Exists { at } => Reply::Exists { at },
-        NodeAdd::Worn { spent } => Reply::Worn { spent },
-        NodeAdd::Memory => Reply::Memory,
+        NodeAnswer::Told { at, told: true } => Reply::Added { at },
+        NodeAnswer::Told { at, told: false } => Reply::Exists { at },
+        NodeAnswer::Worn { spent } => Reply::Worn { spent },
+        NodeAnswer::Memory => Reply::Memory,
     }
 }
 

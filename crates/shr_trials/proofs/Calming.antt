@@ -1,5 +1,5 @@
 -- Each call leaves its seat calm, and where it stands among the seats.
-use Rattle.shr_trials.proofs.Common.{◌≡◌, ℕ, List, Bool, ap, ◌∙◌, IsCalm, StaysCalm, None}
+use Rattle.shr_trials.proofs.Common.{◌≡◌, ℕ, List, ap, ◌∙◌, IsCalm, StaysCalm, None}
 use Rattle.shr_base.specs.declared.objects.Object.{Object}
 use Rattle.shr_base.specs.declared.objects.Policy.{Policy}
 use Rattle.shr_base.specs.declared.places.Place.{Place}
@@ -13,20 +13,14 @@ use Rattle.shr_core.specs.declared.view.View.{View}
 use Rattle.shr_core.specs.Seats.{Seated, view_of}
 use Rattle.shr_seats.specs.declared.shape.Shape.{Shape}
 use Rattle.shr_core.specs.Parts.{Made, Claims, no_rooms}
-use Rattle.shr_node.specs.declared.answers.NodeAdd.{NodeAdd}
-use Rattle.shr_node.specs.declared.answers.NodeAdd.TheVariants as add
-use Rattle.shr_node.specs.declared.answers.NodeLook.{NodeLook}
-use Rattle.shr_node.specs.declared.answers.NodeLook.TheVariants as look
-use Rattle.shr_node.specs.declared.answers.NodeDrop.{NodeDrop}
-use Rattle.shr_node.specs.declared.answers.NodeDrop.TheVariants as drop
-use Rattle.shr_node.specs.declared.answers.NodePin.{NodePin}
-use Rattle.shr_node.specs.declared.answers.NodePin.TheVariants as pin
+use Rattle.shr_node.specs.declared.answers.NodeAnswer.{NodeAnswer}
+use Rattle.shr_node.specs.declared.answers.NodeAnswer.TheVariants as answers
 use Rattle.shr_node.specs.declared.answers.NodeScan.{NodeScan}
 use Rattle.shr_node.specs.declared.answers.NodeScan.TheVariants as scan
 use Rattle.shr_node.specs.declared.answers.SpliceAnswer.{SpliceAnswer}
 use Rattle.shr_node.specs.declared.answers.SpliceAnswer.TheVariants as splice
 use Rattle.shr_node.specs.Gains.{Gains}
-use Rattle.shr_node.specs.Answers.{TenantWorn, AddGives, LookGives, DropGives, PinGives, ScanWorn, ScanGives}
+use Rattle.shr_node.specs.Answers.{TenantGives, ScanWorn, ScanGives}
 use Rattle.shr_node.specs.Splicing.{SpliceGives}
 use Rattle.shr_core.specs.declared.setting.Setting.{Setting}
 use Rattle.shr_core.specs.Gained.{Gained}
@@ -61,39 +55,12 @@ keeps_gains v w more bits g = record {
   standing = g.adds.standing;
 }
 
-tenant_worn : (shape : Shape) (v w : View) (id node birth : ℕ) (e : Listed → Entry) (s : Spent) → TenantWorn shape v w id node birth e s → Keeps v w
-tenant_worn shape v w id node birth e (spent.List place entries items) h = keeps_gains v w _ _ h.full.gains
-tenant_worn shape v w id node birth e (spent.Lookups i seen) h = absurd h
-tenant_worn shape v w id node birth e (spent.Charges charges uncharges) h = absurd h
-
--- `add` does, by each of its answers
-pub keeps_add : (shape : Shape) (v w : View) (id node : ℕ) (o : Object) (a : NodeAdd) → AddGives shape v id node o a w → Keeps v w
-keeps_add shape v w id node o (add.Added at) h = keeps_gains v w _ _ h.gains
-keeps_add shape v w id node o (add.Exists at) h = keeps_gains v w _ _ h.gains
-keeps_add shape v w id node o (add.Worn s) h = tenant_worn shape v w id node o.birth _ s h
-keeps_add shape v w id node o add.Memory h = keeps_gains v w _ _ h.free.gains
-
--- the same for `look`
-pub keeps_look : (shape : Shape) (v w : View) (id node : ℕ) (by : Serial) (birth : ℕ) (key : List ℕ) (a : NodeLook) → LookGives shape v id node by birth key a w → Keeps v w
-keeps_look shape v w id node by birth key (look.Hit at value) h = keeps_gains v w _ _ h.gains
-keeps_look shape v w id node by birth key (look.Miss at) h = keeps_gains v w _ _ h.gains
-keeps_look shape v w id node by birth key (look.Worn s) h = tenant_worn shape v w id node birth _ s h
-keeps_look shape v w id node by birth key look.Memory h = keeps_gains v w _ _ h.free.gains
-
--- the same for `drop_key`
-pub keeps_drop : (shape : Shape) (v w : View) (id node : ℕ) (by : Serial) (birth : ℕ) (key : List ℕ) (a : NodeDrop) → DropGives shape v id node by birth key a w → Keeps v w
-keeps_drop shape v w id node by birth key (drop.Dropped at) h = keeps_gains v w _ _ h.gains
-keeps_drop shape v w id node by birth key (drop.Pinned at) h = keeps_gains v w _ _ h.gains
-keeps_drop shape v w id node by birth key (drop.Miss at) h = keeps_gains v w _ _ h.gains
-keeps_drop shape v w id node by birth key (drop.Worn s) h = tenant_worn shape v w id node birth _ s h
-keeps_drop shape v w id node by birth key drop.Memory h = keeps_gains v w _ _ h.free.gains
-
--- the same for `set_pin`
-pub keeps_pin : (shape : Shape) (v w : View) (id node : ℕ) (by : Serial) (birth : ℕ) (key : List ℕ) (pinned : Bool) (a : NodePin) → PinGives shape v id node by birth key pinned a w → Keeps v w
-keeps_pin shape v w id node by birth key pinned (pin.Done at) h = keeps_gains v w _ _ h.gains
-keeps_pin shape v w id node by birth key pinned (pin.Miss at) h = keeps_gains v w _ _ h.gains
-keeps_pin shape v w id node by birth key pinned (pin.Worn s) h = tenant_worn shape v w id node birth _ s h
-keeps_pin shape v w id node by birth key pinned pin.Memory h = keeps_gains v w _ _ h.free.gains
+-- a tenant's call does, by each of its answers
+pub keeps_call : {A : Type 0} (shape : Shape) (v w : View) (id node birth : ℕ) (tells : List Object → A) (e : Listed → Entry) (a : NodeAnswer A) → TenantGives shape v id node birth tells e a w → Keeps v w
+keeps_call shape v w id node birth tells e (answers.Told at told) h = keeps_gains v w _ _ h.gains
+keeps_call shape v w id node birth tells e (answers.Worn (spent.List place entries items)) h = keeps_gains v w _ _ h.full.gains
+keeps_call shape v w id node birth tells e (answers.Worn s) h = absurd h
+keeps_call shape v w id node birth tells e answers.Memory h = keeps_gains v w _ _ h.free.gains
 
 scan_worn : (shape : Shape) (v w : View) (place : Place) (e : Listed → Entry) (s : Spent) → ScanWorn shape v w place e s → Keeps v w
 scan_worn shape v w place e (spent.List at entries items) h = keeps_gains v w _ _ h.full.gains

@@ -4,10 +4,12 @@ ghost use Rattle.shr_core.specs.Seats.{view_of};
 ghost use Rattle.shr_trials.specs.Calm.{IsCalm, StaysCalm};
 
 use crate::calls::{close, del, get, pin, put, walk};
+use shr_base::journals::DropKind;
 use shr_base::places::{At, Place};
 use shr_base::replies::Spent;
+use shr_base::text::Text;
 use shr_core::seat::Seat;
-use shr_node::answers::{NodeAdd, NodeDrop, NodeLook, NodePin, NodeScan, SpliceAnswer};
+use shr_node::answers::{NodeAnswer, NodeScan, SpliceAnswer};
 use std::sync::Wait;
 
 /// A call on a list. A scan has a budget of nine visits. Our own.
@@ -45,39 +47,50 @@ fn full(spent: Spent) -> Heard {
     }
 }
 
-fn of_put(answer: Option<NodeAdd>) -> Heard {
+fn of_put(answer: Option<NodeAnswer<bool>>) -> Heard {
     match answer {
-        Some(NodeAdd::Added { at }) => entry("added", at),
-        Some(NodeAdd::Exists { at }) => entry("exists", at),
-        Some(NodeAdd::Worn { spent }) => full(spent),
+        Some(NodeAnswer::Told { at, told: true }) => entry("added", at),
+        Some(NodeAnswer::Told { at, told: false }) => entry("exists", at),
+        Some(NodeAnswer::Worn { spent }) => full(spent),
         _ => NOTHING,
     }
 }
 
-fn of_get(answer: Option<NodeLook>) -> Heard {
+fn of_get(answer: Option<NodeAnswer<Option<Text>>>) -> Heard {
     match answer {
-        Some(NodeLook::Hit { at, value: _ }) => entry("hit", at),
-        Some(NodeLook::Miss { at }) => entry("miss", at),
-        Some(NodeLook::Worn { spent }) => full(spent),
+        Some(
+            NodeAnswer::Told {
+                at,
+                told: Some(_value),
+            },
+        ) => entry("hit", at),
+        Some(NodeAnswer::Told { at, told: None }) => entry("miss", at),
+        Some(NodeAnswer::Worn { spent }) => full(spent),
         _ => NOTHING,
     }
 }
 
-fn of_del(answer: Option<NodeDrop>) -> Heard {
+fn word_of(kind: DropKind) -> &'static str {
+    match kind {
+        DropKind::Dropped => "dropped",
+        DropKind::Pinned => "pinned",
+        DropKind::Miss => "miss",
+    }
+}
+
+fn of_del(answer: Option<NodeAnswer<DropKind>>) -> Heard {
     match answer {
-        Some(NodeDrop::Dropped { at }) => entry("dropped", at),
-        Some(NodeDrop::Pinned { at }) => entry("pinned", at),
-        Some(NodeDrop::Miss { at }) => entry("miss", at),
-        Some(NodeDrop::Worn { spent }) => full(spent),
+        Some(NodeAnswer::Told { at, told }) => entry(word_of(told), at),
+        Some(NodeAnswer::Worn { spent }) => full(spent),
         _ => NOTHING,
     }
 }
 
-fn of_pin(answer: Option<NodePin>) -> Heard {
+fn of_pin(answer: Option<NodeAnswer<bool>>) -> Heard {
     match answer {
-        Some(NodePin::Done { at }) => entry("done", at),
-        Some(NodePin::Miss { at }) => entry("miss", at),
-        Some(NodePin::Worn { spent }) => full(spent),
+        Some(NodeAnswer::Told { at, told: true }) => entry("done", at),
+        Some(NodeAnswer::Told { at, told: false }) => entry("miss", at),
+        Some(NodeAnswer::Worn { spent }) => full(spent),
         _ => NOTHING,
     }
 }

@@ -12,7 +12,7 @@ use shr_base::places::{Place, Serial};
 use shr_base::text::Text;
 use shr_core::counts::Seen;
 use shr_core::seat::Seat;
-use shr_node::answers::{NodeAdd, NodeDrop, NodeLook, NodePin, NodeScan, SpliceAnswer};
+use shr_node::answers::{NodeAnswer, NodeScan, SpliceAnswer};
 use shr_node::scanning::{ScanRequest, scan};
 use shr_node::splicing::splice;
 use shr_node::tenants::{self, TenantCall};
@@ -99,7 +99,12 @@ pub(crate) fn rest(seat: &mut Seat<'_>)
 }
 
 /// Adds an object of this key. Our own.
-pub(crate) fn put<R: Wait>(rt: &R, seat: &mut Seat<'_>, place: Place, key: &[u8]) -> Option<NodeAdd>
+pub(crate) fn put<R: Wait>(
+    rt: &R,
+    seat: &mut Seat<'_>,
+    place: Place,
+    key: &[u8],
+) -> Option<NodeAnswer<bool>>
     requires { IsCalm (view_of seat.old) }
     ensures { StaysCalm seat.old seat.new }
 {
@@ -123,7 +128,7 @@ pub(crate) fn get<R: Wait>(
     seat: &mut Seat<'_>,
     place: Place,
     key: &[u8],
-) -> Option<NodeLook>
+) -> Option<NodeAnswer<Option<Text>>>
     requires { IsCalm (view_of seat.old) }
     ensures { StaysCalm seat.old seat.new }
 {
@@ -146,7 +151,7 @@ pub(crate) fn del<R: Wait>(
     seat: &mut Seat<'_>,
     place: Place,
     key: &[u8],
-) -> Option<NodeDrop>
+) -> Option<NodeAnswer<DropKind>>
     requires { IsCalm (view_of seat.old) }
     ensures { StaysCalm seat.old seat.new }
 {
@@ -164,7 +169,12 @@ pub(crate) fn del<R: Wait>(
 }
 
 /// Pins an object. Our own.
-pub(crate) fn pin<R: Wait>(rt: &R, seat: &mut Seat<'_>, place: Place, key: &[u8]) -> Option<NodePin>
+pub(crate) fn pin<R: Wait>(
+    rt: &R,
+    seat: &mut Seat<'_>,
+    place: Place,
+    key: &[u8],
+) -> Option<NodeAnswer<bool>>
     requires { IsCalm (view_of seat.old) }
     ensures { StaysCalm seat.old seat.new }
 {

@@ -8,7 +8,7 @@ ghost use Rattle.shr_trials.specs.Calm.{IsCalm, StaysCalm};
 use crate::calls::{close, count, place_of, put, rest};
 use crate::desk::{WIDE, end, join, open, pair};
 use shr_core::seat::Seat;
-use shr_node::answers::{NodeAdd, SpliceAnswer};
+use shr_node::answers::{NodeAnswer, SpliceAnswer};
 use std::sync::Wait;
 use std::test::Fail;
 use std::thread;
@@ -21,7 +21,7 @@ fn add_one<R: Wait>(rt: &R, seat: &mut Seat<'_>, number: u16) -> usize
 {
     let key = number.to_le_bytes();
     match put(rt, seat, place_of(2), &key) {
-        Some(NodeAdd::Added { at: _ }) => 1,
+        Some(NodeAnswer::Told { at: _, told: true }) => 1,
         _ => 0,
     }
 }

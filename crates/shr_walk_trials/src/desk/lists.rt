@@ -1,10 +1,11 @@
 //! What a tenant does with one object. Nothing is charged for an object.
 
 use crate::desk::holding::{hold, rest};
+use shr_base::journals::DropKind;
 use shr_base::objects::Object;
 use shr_base::places::{Place, Serial};
 use shr_base::text::Text;
-use shr_node::answers::{NodeAdd, NodeDrop};
+use shr_node::answers::NodeAnswer;
 use shr_node::tenants::{self, TenantCall};
 use shr_walk::worker::Worker;
 use std::sync::Wait;
@@ -16,7 +17,11 @@ pub const BY: Serial = Serial {
 };
 
 /// Adds an object of this key, whose birth group is that of the place. Our own.
-pub fn add<R: Wait>(worker: &mut Worker<'_, R>, place: Place, key: &[u8]) -> Option<NodeAdd> {
+pub fn add<R: Wait>(
+    worker: &mut Worker<'_, R>,
+    place: Place,
+    key: &[u8],
+) -> Option<NodeAnswer<bool>> {
     let shared = worker.shared;
     let object = Object {
         serial: BY,
@@ -46,12 +51,16 @@ pub fn fill<R: Wait>(worker: &mut Worker<'_, R>, place: Place, objects: u16) -> 
 }
 
 /// Whether an object was added. Our own.
-pub fn is_added(answer: &Option<NodeAdd>) -> bool {
-    matches!(answer, Some(NodeAdd::Added { at: _ }))
+pub fn is_added(answer: &Option<NodeAnswer<bool>>) -> bool {
+    matches!(answer, Some(NodeAnswer::Told { at: _, told: true }))
 }
 
 /// Takes an object out. Our own.
-pub fn drop_key<R: Wait>(worker: &mut Worker<'_, R>, place: Place, key: &[u8]) -> Option<NodeDrop> {
+pub fn drop_key<R: Wait>(
+    worker: &mut Worker<'_, R>,
+    place: Place,
+    key: &[u8],
+) -> Option<NodeAnswer<DropKind>> {
     let shared = worker.shared;
     let key = Text::of(shared.core.alloc, key).ok()?;
     hold(shared, &mut worker.seats, place)?;
