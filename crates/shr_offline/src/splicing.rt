@@ -8,7 +8,7 @@ ghost use Rattle.shr_offline.specs.Splices.{AllGives};
 
 use shr_core::seat::Seat;
 use shr_node::answers::SpliceAnswer;
-use shr_node::splicing::splice;
+use shr_node::splicing::{children_of, splice_below};
 use std::sync::Wait;
 
 /// Splices each id on each node, and adds up what the group's own lists gave.
@@ -23,14 +23,16 @@ pub(crate) fn splice_all<R: Wait>(rt: &R, seat: &mut Seat<'_>, group: u16) -> Sp
     ensures answer { AllGives (shape_of seat.old.core) group result (view_of seat.old)
         (view_of seat.new) }
 {
-    let shape = seat.core().shape();
+    let core = seat.core();
+    let shape = core.shape();
     let nodes = shape.nodes as u32;
     let places = shape.ids as u32 * nodes;
+    let children = children_of(core, group);
     let mut moved = 0;
     for place in 0..places {
         let id = (place / nodes) as u16;
         let node = (place % nodes) as u8;
-        match splice(rt, seat, id, node, group) {
+        match splice_below(rt, seat, id, node, group, &children) {
             SpliceAnswer::Spliced { moved: more } => moved += more,
             SpliceAnswer::Worn { spent } => return SpliceAnswer::Worn { spent },
             SpliceAnswer::Memory => return SpliceAnswer::Memory,
