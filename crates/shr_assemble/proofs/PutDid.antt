@@ -1,6 +1,7 @@
 -- What a put did.
 use Rattle.shr_assemble.proofs.Common.{◌≡◌, ℕ, ◌+◌, ◌<◌, inl, inr, Bool, true, false, ◌&&◌, not, cond, ◌==◌, List, [], ◌∷◌, ◌++◌, length, refl, sym, ap, subst, ◌∙◌, arith, Option, Some, None, nat_lt, if◌then◌else◌, Entry, Add, Object, At, Place, Serial, Target, Answered, Found, Reply, Command, Put, is_at_or_above, path_of, is_later, Hierarchy, step, fresh, holds, place_number, times, only, total, total-append, only_yes, AreRising, spent_by, View, group_of, Made, shape_of, add_entry, Listed, AddGives, is_raised, bits_for, times_of, parents_of, IsObjectWithin, content_of, WorkerState, Work, no_work, Does, Shared, does_none, unfound, same_Some, none-some, hierarchy_of, added_below, KnowsUnmade, IsAmong, Step, Puts, PutFrom, PutNone, PutAs, CommandGives}
 use Rattle.std.proofs.Common.{lt-ltb}
+use Rattle.shr_model.proofs.Booleans.{not_true}
 use Rattle.shr_base.specs.declared.replies.Reply.TheVariants as reply
 use Rattle.shr_base.specs.declared.replies.Spent.TheVariants as spent
 use Rattle.shr_node.specs.declared.answers.NodeAnswer.{NodeAnswer}
@@ -42,11 +43,6 @@ told_added so c h = each h.answer h.told h.did where
   each (answers.Worn w) e o = absurd (cc)
   each answers.Memory e o = absurd (cc)
 
--- it held none of its key
-absent : (b : Bool) → not b ≡ true → b ≡ false
-absent true e = absurd (cc)
-absent false e = refl
-
 module _ (x : Shared) (table : IsTableOf x) (by : Serial) (to : Target) (key value : List ℕ) (within : IsObjectWithin (content_of x.script) to key) where
   pub inside : to.group < length (parents_of x.script)
   inside = group_in x to.group within.in_group
@@ -75,7 +71,7 @@ module _ (x : Shared) (table : IsTableOf x) (by : Serial) (to : Target) (key val
       let d = adm x table by to key value inside a admission.Charged s h.charged t h.asks in
       let v : Work = first x table by to key value inside a admission.Charged s h.charged t h.asks in
       let same = made_same x to.decl f call h.charged o.held t o.holds o.calls table to.node within.on_node to.group inside c so e acts in
-      let grew : step [] acts.old.items (e acts.old) ≡ acts.old.items ++ object ∷ [] = ap (λ b. if b then acts.old.items else acts.old.items ++ object ∷ []) (absent (holds to.group key acts.old.items) acts.before) in
+      let grew : step [] acts.old.items (e acts.old) ≡ acts.old.items ++ object ∷ [] = ap (λ b. if b then acts.old.items else acts.old.items ++ object ∷ []) (not_true (holds to.group key acts.old.items) acts.before) in
       noted_did x table by to key value within.on_node inside f r s h.charged t t h.asks call o.held o.holds o.calls q (path_of x.charge.shape.parents.items to.group) c so e acts (record {
         does = brings_of (offering_does x to.decl f call h.charged o.held t o.holds o.calls (m ∷ []) set acts.gains);
         tail = offering_tail to.decl f o.holds.answers.gains.words (m ∷ []) set (λ place worker n. not_scanned (m.place == place));
