@@ -22,16 +22,12 @@ use Rattle.shr_core.specs.Gained.{Gained, IsIdle, OwesNoMore}
 use Rattle.shr_core.specs.Seats.{Seated, IsPlaceOfShape, view_of, shape_of}
 use Rattle.shr_core.specs.Steps.{with_put, with_word, without_id}
 use Rattle.shr_core.proofs.Owing.{still_none}
-use Rattle.shr_node.specs.declared.answers.NodeAdd.{NodeAdd}
-use Rattle.shr_node.specs.declared.answers.NodeAdd.TheVariants as add
-use Rattle.shr_node.specs.declared.answers.NodeLook.{NodeLook}
-use Rattle.shr_node.specs.declared.answers.NodeLook.TheVariants as look
-use Rattle.shr_node.specs.declared.answers.NodeDrop.{NodeDrop}
-use Rattle.shr_node.specs.declared.answers.NodeDrop.TheVariants as drop
 use Rattle.shr_node.specs.declared.answers.NodeScan.{NodeScan}
 use Rattle.shr_node.specs.declared.answers.NodeScan.TheVariants as scan
 use Rattle.shr_node.specs.Gains.{Gains}
-use Rattle.shr_node.specs.Answers.{TenantWorn, AddGives, LookGives, DropGives, ScanWorn, ScanGives}
+use Rattle.shr_node.specs.declared.answers.NodeAnswer.{NodeAnswer}
+use Rattle.shr_node.specs.declared.answers.NodeAnswer.TheVariants as answers
+use Rattle.shr_node.specs.Answers.{TenantGives, ScanWorn, ScanGives}
 use Rattle.shr_registry.specs.Adding.{Brings}
 use Rattle.shr_registry.specs.declared.answers.RegisterAnswer.{RegisterAnswer}
 use Rattle.shr_registry.specs.declared.answers.RegisterAnswer.TheVariants as register
@@ -141,29 +137,12 @@ holder_still x place s seat h is k = let same = k.claims h.owner in record {
   deferred = h.deferred;
 }
 
-tenant_worn : (shape : Shape) (v w : View) (id node birth : ℕ) (e : Listed → Entry) (s : Spent) → TenantWorn shape v w id node birth e s → IsKept v w
-tenant_worn shape v w id node birth e (spent.List place entries items) h = kept v w _ _ h.full.gains
-tenant_worn shape v w id node birth e (spent.Lookups i seen) h = absurd h
-tenant_worn shape v w id node birth e (spent.Charges charges uncharges) h = absurd h
-
-pub kept_add : (shape : Shape) (v w : View) (id node : ℕ) (o : Object) (a : NodeAdd) → AddGives shape v id node o a w → IsKept v w
-kept_add shape v w id node o (add.Added at) h = kept v w _ _ h.gains
-kept_add shape v w id node o (add.Exists at) h = kept v w _ _ h.gains
-kept_add shape v w id node o (add.Worn s) h = tenant_worn shape v w id node o.birth _ s h
-kept_add shape v w id node o add.Memory h = kept v w _ _ h.free.gains
-
-pub kept_look : (shape : Shape) (v w : View) (id node : ℕ) (by : Serial) (birth : ℕ) (key : List ℕ) (a : NodeLook) → LookGives shape v id node by birth key a w → IsKept v w
-kept_look shape v w id node by birth key (look.Hit at value) h = kept v w _ _ h.gains
-kept_look shape v w id node by birth key (look.Miss at) h = kept v w _ _ h.gains
-kept_look shape v w id node by birth key (look.Worn s) h = tenant_worn shape v w id node birth _ s h
-kept_look shape v w id node by birth key look.Memory h = kept v w _ _ h.free.gains
-
-pub kept_drop : (shape : Shape) (v w : View) (id node : ℕ) (by : Serial) (birth : ℕ) (key : List ℕ) (a : NodeDrop) → DropGives shape v id node by birth key a w → IsKept v w
-kept_drop shape v w id node by birth key (drop.Dropped at) h = kept v w _ _ h.gains
-kept_drop shape v w id node by birth key (drop.Pinned at) h = kept v w _ _ h.gains
-kept_drop shape v w id node by birth key (drop.Miss at) h = kept v w _ _ h.gains
-kept_drop shape v w id node by birth key (drop.Worn s) h = tenant_worn shape v w id node birth _ s h
-kept_drop shape v w id node by birth key drop.Memory h = kept v w _ _ h.free.gains
+-- a tenant's call keeps it, whatever it answered
+pub kept_call : {A : Type 0} (shape : Shape) (v w : View) (id node birth : ℕ) (tells : List Object → A) (e : Listed → Entry) (a : NodeAnswer A) → TenantGives shape v id node birth tells e a w → IsKept v w
+kept_call shape v w id node birth tells e (answers.Told at told) h = kept v w _ _ h.gains
+kept_call shape v w id node birth tells e (answers.Worn (spent.List place entries items)) h = kept v w _ _ h.full.gains
+kept_call shape v w id node birth tells e (answers.Worn s) h = absurd h
+kept_call shape v w id node birth tells e answers.Memory h = kept v w _ _ h.free.gains
 
 scan_worn : (shape : Shape) (v w : View) (place : Place) (e : Listed → Entry) (s : Spent) → ScanWorn shape v w place e s → IsKept v w
 scan_worn shape v w place e (spent.List at entries items) h = kept v w _ _ h.full.gains

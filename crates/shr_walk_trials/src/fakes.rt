@@ -14,7 +14,7 @@ use shr_base::objects::Object;
 use shr_base::places::Place;
 use shr_base::text::Text;
 use shr_core::counts::Seen;
-use shr_node::answers::NodeAdd;
+use shr_node::answers::NodeAnswer;
 use shr_node::tenants::add;
 use shr_pass::answers::{Count, ScanAnswer};
 use shr_pass::shrinker::Shrinker;
@@ -59,7 +59,7 @@ fn kind_of(seen: Seen, floor: u32) -> Count
 
 impl<'a, R: Wait> Fake<'a, R> {
     // Adds the late object, where there is one.
-    fn add_late(&self, seat: &mut CacheSeat<'_>) -> Option<NodeAdd>
+    fn add_late(&self, seat: &mut CacheSeat<'_>) -> Option<NodeAnswer<bool>>
         requires shared { IsShared self.now.shared.now }
         requires place { IsPlaceOfShape (shape_of self.now.shared.now.core) self.now.place }
         requires ready { IsReady self.now.shared.now self.now.place seat.old }

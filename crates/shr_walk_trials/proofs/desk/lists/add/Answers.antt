@@ -1,8 +1,8 @@
 use Rattle.std.proofs.Common.{false}
 use Rattle.shr_core.specs.Seats.{view_of}
-use Rattle.shr_walk_trials.proofs.Seating.{holder_still, kept_add}
+use Rattle.shr_walk_trials.proofs.Seating.{holder_still, kept_call}
 use Rattle.shr_walk_trials.proofs.desk.lists.add.Goals as goal
 
 pub rest-requires : goal.rest-requires
 rest-requires g c = holder_still c.worker.inside.shared.now c.args.place c.hold.new.seats c.add-answer.new.seat c.in_ok-hold.ensures.held c.add-answer.ensures.table
-    (kept_add _ (view_of c.hold.new.seats.cache.core) (view_of c.add-answer.new.seat) _ _ (record { serial = _; birth = _; key = _; value = _; marked = false; pinned = false }) c.add-answer.result c.add-answer.ensures.answer)
+    (kept_call _ (view_of c.hold.new.seats.cache.core) (view_of c.add-answer.new.seat) _ _ _ _ _ c.add-answer.result c.add-answer.ensures.answer)
