@@ -1,5 +1,5 @@
 -- What a put did, by the reply that tells of it.
-use Rattle.shr_cache.proofs.Common.{◌≡◌, ℕ, List, true, false, Object, Serial, Found, Reply, None, Option, Some, fresh, same_for, same_then, Acting, IsSame, Shared, WorkerState, Uncharges, IsStill, LoadsWord, MayCharge, OfferedAs, Puts, PutAs}
+use Rattle.shr_cache.proofs.Common.{◌≡◌, ℕ, List, true, false, sym, Object, Serial, Found, Reply, None, Option, Some, fresh, same_for, same_then, Acting, IsSame, Shared, WorkerState, Uncharges, IsStill, LoadsWord, MayCharge, OfferedAs, Puts, PutAs}
 use Rattle.shr_base.specs.declared.places.Target.{Target}
 use Rattle.shr_base.specs.declared.replies.Reply.TheVariants as reply
 use Rattle.shr_base.specs.declared.replies.Spent.TheVariants as spent
@@ -7,6 +7,9 @@ use Rattle.shr_charge.specs.declared.answers.GroupState.TheVariants.{Online}
 use Rattle.shr_reclaim.specs.Admitting.{AdmissionGives}
 use Rattle.shr_reclaim.specs.declared.answers.Admission.TheVariants.{Charged}
 use Rattle.shr_cache.specs.Replies.{has_added}
+
+apart : false ≡ true → ⊥
+apart e = cc
 
 module _ (x : Shared) (by : Serial) (group node decl : ℕ) (o : Object) where
   -- an object that wasn't added is charged no more
@@ -17,15 +20,15 @@ module _ (x : Shared) (by : Serial) (group node decl : ℕ) (o : Object) where
   taken_back None (reply.Over over operation usage) s v t e h back = absurd h.offered
   taken_back None reply.Memory s v t e h back = absurd h.offered
   taken_back None r s v t e h back = record { refused = v; puts = h; back = back }
-  taken_back (Some f) (reply.Added at) s v t e h back = cc
+  taken_back (Some f) (reply.Added at) s v t e h back = absurd (apart (sym e))
   taken_back (Some f) r s v t e h back = record { refused = v; puts = h; back = back }
 
   -- one that was added stays charged
   pub stays_charged : (found : Option Found) (r : Reply) (s t : WorkerState) → has_added r ≡ true → Puts x by group node decl o found r s t → PutAs x by group node decl o found r s t
   stays_charged None (reply.Added at) s t e h = absurd h.offered
-  stays_charged None r s t e h = cc
+  stays_charged None r s t e h = absurd (apart e)
   stays_charged (Some f) (reply.Added at) s t e h = h
-  stays_charged (Some f) r s t e h = cc
+  stays_charged (Some f) r s t e h = absurd (apart e)
 
 -- the object was offered once the group was online and the charge was made
 pub puts : (w l h v : Acting) (t : Target) (key value : List ℕ) (found : Option Found) (r : Reply) → MayCharge w.state → IsStill w l → LoadsWord w.shared t.group Online w.state l.state → IsSame l h → AdmissionGives l.shared l.by t.group Charged l.state h.state
