@@ -7,6 +7,7 @@ ghost use Rattle.shr_core.specs.Steps.{IsAtRest};
 ghost use Rattle.shr_trials.specs.Calm.{IsCalm, StaysCalm};
 
 use shr_base::ends::LookupWord;
+use shr_base::journals::DropKind;
 use shr_base::objects::{Object, Policy};
 use shr_base::places::{Place, Serial};
 use shr_base::text::Text;
