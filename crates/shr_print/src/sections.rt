@@ -29,9 +29,11 @@ pub(crate) struct Workers<'a> {
     pub(crate) parts: &'a [WorkerPart],
 }
 
-// An answer's line takes twice as long as another.
+// The line of an answer takes twice as long as another, and a walk has about three: its own, and those
+// of its maps and attempts.
 fn of_worker(part: &WorkerPart) -> Measure {
-    Measure::of(part.answers.len(), 2)
+    let walks = Measure::of(part.walks.len().saturating_mul(3), 1);
+    Measure::of(part.answers.len(), 2).and(walks)
 }
 
 impl<'a> Section for Workers<'a> {
