@@ -9,7 +9,7 @@ ghost use Rattle.shr_core.specs.Ending.{AreNarrow, end_value, place_ends, ends_b
 
 use crate::lookups::unpack;
 use crate::slot::Slot;
-use crate::words::{bit_word, lookup_word};
+use crate::words::{bit_word, count_word, lookup_word};
 use atomic_table::Closed as Ended;
 use shr_base::ends::{MapEnd, PlaceEnd};
 use shr_base::log::Log;
@@ -37,12 +37,24 @@ fn add_end(ends: &mut Log<PlaceEnd>, place: Place, slot: Slot) -> Result<(), Mem
     })
 }
 
-/// Empties the rooms of all places, and gives what the places had. Once memory has run out, the
-/// rooms after that are emptied too. Our own.
+/// How many places have a journal, by their count words. Our own.
+pub(crate) fn used_places(ended: &Ended<Slot, Global>, sizes: Sizes) -> usize
+    requires { (slots_len ended.now.words ≡ words_in sizes) × IsFull ended.now.words }
+{
+    let mut used = 0usize;
+    for row in 0..sizes.rows() {
+        used = used.saturating_add(usize::from(ended.word(count_word(row)) > 0));
+    }
+    used
+}
+
+/// Empties the rooms of all places, and gives what the places had, in a list that begins with room for
+/// so many. Once memory has run out, the rooms after that are emptied too. Our own.
 pub(crate) fn take_ends(
     alloc: Global,
     ended: &mut Ended<Slot, Global>,
     sizes: Sizes,
+    likely: usize,
 ) -> Result<Log<PlaceEnd>, Memory>
     requires some { (0 < sizes.nodes) × (0 < sizes.groups) }
     requires few { (sizes.nodes ≤ 4) × (sizes.groups ≤ 256) }
@@ -60,7 +72,7 @@ pub(crate) fn take_ends(
         (items_in sizes (slots_items ended.old.slots))) }
 {
     let mut ends = Log::new(alloc);
-    let mut whole = true;
+    let mut whole = ends.reserve_exact(likely).is_ok();
     for row in 0..sizes.rows() {
         let slot = ended.take(row);
         whole = add_where(&mut ends, sizes.place(row), slot, whole);

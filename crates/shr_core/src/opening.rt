@@ -10,7 +10,7 @@ ghost use Rattle.shr_core.specs.Leaving.{IsLeft};
 ghost use Rattle.shr_core.specs.Seats.{first_view, shape_of, view_of};
 ghost use Rattle.shr_core.specs.Seating.{IsFirstOf};
 
-use crate::ending::{read_lookups, read_maps, take_ends};
+use crate::ending::{read_lookups, read_maps, take_ends, used_places};
 use crate::seat::{FirstSeat, InHand, Seat};
 use crate::setting::Setting;
 use crate::slot::Slot;
@@ -151,7 +151,8 @@ impl Core {
         let units = ((ids + 63) / 64) as u8;
         let maps = read_maps(alloc, &ended, sizes, units);
         let lookups = read_lookups(alloc, &ended, shape.ids);
-        let places = take_ends(alloc, &mut ended, sizes);
+        let used = used_places(&ended, sizes);
+        let places = take_ends(alloc, &mut ended, sizes, used);
         let pool = ended.take(sizes.rows()).into_pool();
         ended.free();
         Ok(Closed {

@@ -78,6 +78,8 @@ impl Core {
         self.exchange_as::<Brand>(token, lock_word(row), room, row) == 0
     }
 
+    // Kept apart, since most rooms are free.
+    #[inline(never)]
     fn wait_for<R: Wait>(&self, rt: &R, token: &mut Token<Slot, View>, room: usize, row: usize)
         requires seat { IsHere self.now token.old }
         requires room { IsInside (shape_of self.now) room }
@@ -94,6 +96,21 @@ impl Core {
             backoff.snooze();
         }
         unreachable!()
+    }
+
+    // Takes a room, and waits where it isn't free.
+    #[inline(always)]
+    fn take_free<R: Wait>(&self, rt: &R, token: &mut Token<Slot, View>, room: usize, row: usize)
+        requires seat { IsHere self.now token.old }
+        requires room { IsInside (shape_of self.now) room }
+        requires row { (row ≡ row_in (sizes_of (shape_of self.now)) room) × (row < 2 ^ 40) }
+        ensures id { IsSameSeat token.old token.new }
+        ensures took { TakesRoom token.old.me room row place_content (PlaceTold (shape_of self.now)
+            token.old.me.0 room) token.new.me }
+    {
+        if !self.take_once(token, room, row) {
+            self.wait_for(rt, token, room, row);
+        }
     }
 
     /// Brings a room's slot to the front of those that the seat has taken, and gives the rooms
@@ -150,6 +167,7 @@ impl<'a> Seat<'a> {
     /// child of the place's group.
     ///
     /// Linux: `spin_lock(&nlru->lock)` in mm/list_lru.c.
+    #[inline(always)]
     pub fn take_room<R: Wait>(&mut self, rt: &R, place: Place) -> Room
         requires place { IsPlaceOfShape (shape_of self.old.core) place }
         requires rooms { MayTake (shape_of self.old.core) (view_of self.old) place }
@@ -163,7 +181,7 @@ impl<'a> Seat<'a> {
     {
         let number = number_of(place);
         let row = self.core.row(place);
-        self.core.wait_for(rt, &mut self.token, number, row);
+        self.core.take_free(rt, &mut self.token, number, row);
         let list = self.core.lift(&mut self.token, row).into_list();
         self.rooms = one_more(self.rooms, number);
         Room { place, list }
@@ -225,6 +243,7 @@ impl<'a> Seat<'a> {
     /// counts are stored, and no splice is in progress.
     ///
     /// Linux: `spin_unlock(&nlru->lock)` in mm/list_lru.c.
+    #[inline(always)]
     pub fn give_room(&mut self, room: Room)
         requires place { IsPlaceOfShape (shape_of self.old.core) room.place }
         requires has { 0 < has_room (place_number room.place) (view_of self.old).holding }

@@ -266,6 +266,7 @@ impl Contents {
         ensures other_journal { KeepsJournal other.old other.new }
     {
         match (&mut self.inside, &mut other.inside) {
+            (Some(_), Some(front)) if front.queue.len() == 0 => Ok(()),
             (Some(inside), Some(front)) if inside.queue.len() == 0 => {
                 swap(&mut inside.queue, &mut front.queue);
                 Ok(())

@@ -100,6 +100,7 @@ pub(crate) fn keep(seat: &mut Seat<'_>, room: Room, was_empty: bool)
 }
 
 /// Gives a room back whose list is as it was. Our own.
+#[inline(always)]
 pub(crate) fn leave(seat: &mut Seat<'_>, room: Room)
     requires untouched { IsUntouched (shape_of seat.old.core) (view_of seat.old) room }
     ensures left { seat.new ≡ record seat.old {

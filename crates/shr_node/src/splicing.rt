@@ -57,6 +57,7 @@ pub fn children_of(core: &Core, group: u16) -> Children
 }
 
 // Whether the list of a place is open. Its room is taken and given back.
+#[inline(always)]
 fn is_open<R: Wait>(rt: &R, seat: &mut Seat<'_>, place: Place) -> bool
     requires rooms { (view_of seat.old).holding ≡ no_rooms }
     requires place { IsPlaceOfShape (shape_of seat.old.core) place }

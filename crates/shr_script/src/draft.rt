@@ -11,7 +11,7 @@ pub struct Draft {
     pub caches: Log<CacheDecl>,
     pub pools: Log<PoolDecl>,
     pub complete: Log<WorkerScript>,
-    pub commands: Log<Command>,
+    pub commands: Vec<Command>,
     pub sweep: Option<Sweep>,
     /// How many commands the script may have, by a guess.
     pub likely: usize,

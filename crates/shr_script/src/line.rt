@@ -125,21 +125,20 @@ fn pool_line<'a>(
 
 // The same commands. Where they take less than half of the room that was made for them, they get a
 // room of their size.
-fn trimmed(commands: Log<Command>) -> Log<Command>
+fn trimmed(mut commands: Vec<Command>) -> Log<Command>
     ensures { result.items ≡ commands.items }
 {
-    let mut kept = commands.into_vec();
-    if kept.len() < kept.capacity() / 2 {
-        kept.shrink_to_fit();
+    if commands.len() < commands.capacity() / 2 {
+        commands.shrink_to_fit();
     }
-    Log::from_vec(kept)
+    Log::from_vec(commands)
 }
 
 // The commands of the last worker are complete.
 fn complete(alloc: Global, phase: Phase, draft: &mut Draft) -> Result<(), Memory>
     ensures { OnOk result (drafted draft.new ≡ completed phase (drafted draft.old)) }
 {
-    let commands = trimmed(std::mem::replace(&mut draft.commands, Log::new(alloc)));
+    let commands = trimmed(std::mem::replace(&mut draft.commands, Vec::new(alloc)));
     if let Phase::Workers = phase {
         draft.complete.add(WorkerScript { commands })?;
     }
@@ -176,7 +175,9 @@ fn keep(said: &mut Said, draft: &mut Draft, command: Command) -> Result<(), Stop
         (command_kept (said_state said.old) (drafted draft.old) command) }
 {
     command_rule(said)?;
-    draft.commands.add(command)?;
+    if draft.commands.push(command).is_err() {
+        return Err(Stopped::Memory);
+    }
     said.commands += 1;
     Ok(())
 }

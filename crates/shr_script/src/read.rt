@@ -69,7 +69,7 @@ fn run<'a>(alloc: Global, bytes: &'a [u8]) -> Result<(Said<'a>, Draft), ReadErro
         caches: Log::new(alloc),
         pools: Log::new(alloc),
         complete: Log::new(alloc),
-        commands: Log::new(alloc),
+        commands: Vec::new(alloc),
         sweep: None,
         likely: likely_commands(bytes),
     };

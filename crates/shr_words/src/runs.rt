@@ -1,5 +1,5 @@
 //! How many bytes are of a class, from the first on. Where there are so many, eight are looked at
-//! together.
+//! together, and sixteen where a space alone ends them, as it ends a long path.
 
 ghost use Rattle.std.specs.Prelude.{◌≡◌, ◌+◌, ◌≤◌, length};
 ghost use Rattle.std.specs.List.{prefix_len};
@@ -12,12 +12,14 @@ use std::simd::prelude::*;
 
 const LANES: usize = 8;
 
+const WORD_LANES: usize = 16;
+
 #[inline(always)]
-fn first_set(mask: u64) -> usize
-    ensures { result ≡ first_set mask LANES }
+fn first_set(mask: u64, lanes: usize) -> usize
+    ensures { result ≡ first_set mask lanes }
 {
     if mask == 0 {
-        LANES
+        lanes
     } else {
         mask.trailing_zeros() as usize
     }
@@ -30,7 +32,7 @@ fn visible_run(bytes: &[u8], at: usize) -> usize
 {
     let above_space = u8x8::from_slice(&bytes[at..]) - u8x8::splat(33);
     let stops = above_space.simd_ge(u8x8::splat(94));
-    first_set(stops.to_bitmask())
+    first_set(stops.to_bitmask(), LANES)
 }
 
 #[inline(always)]
@@ -42,16 +44,16 @@ fn name_run(bytes: &[u8], at: usize) -> usize
     let no_letter = (v - u8x8::splat(b'a')).simd_ge(u8x8::splat(26));
     let no_digit = (v - u8x8::splat(b'0')).simd_ge(u8x8::splat(10));
     let stops = no_letter & no_digit & v.simd_ne(u8x8::splat(b'_'));
-    first_set(stops.to_bitmask())
+    first_set(stops.to_bitmask(), LANES)
 }
 
 #[inline(always)]
 fn word_run(bytes: &[u8], at: usize) -> usize
-    requires { at + LANES ≤ length bytes.now }
-    ensures { IsRunIn (differs 32) bytes.now at LANES result }
+    requires { at + WORD_LANES ≤ length bytes.now }
+    ensures { IsRunIn (differs 32) bytes.now at WORD_LANES result }
 {
-    let stops = u8x8::from_slice(&bytes[at..]).simd_eq(u8x8::splat(b' '));
-    first_set(stops.to_bitmask())
+    let stops = u8x16::from_slice(&bytes[at..]).simd_eq(u8x16::splat(b' '));
+    first_set(stops.to_bitmask(), WORD_LANES)
 }
 
 fn few_of_word(bytes: &[u8]) -> usize
@@ -125,18 +127,18 @@ pub(crate) fn word_len(bytes: &[u8]) -> usize
     ensures front { result ≡ prefix_len (differs 32) bytes.now }
     ensures within { result ≤ length bytes.now }
 {
-    if bytes.len() < LANES {
+    if bytes.len() < WORD_LANES {
         return few_of_word(bytes);
     }
     let mut n = 0;
-    while LANES <= bytes.len() - n {
+    while WORD_LANES <= bytes.len() - n {
         let run = word_run(bytes, n);
         n += run;
-        if run < LANES {
+        if run < WORD_LANES {
             return n;
         }
     }
-    // The last eight may overlap those before.
-    let last = bytes.len() - LANES;
+    // The last sixteen may overlap those before.
+    let last = bytes.len() - WORD_LANES;
     last + word_run(bytes, last)
 }

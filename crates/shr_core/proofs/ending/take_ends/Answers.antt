@@ -4,7 +4,7 @@ use Rattle.shr_core.proofs.ending.take_ends.Goals as goal
 
 pub loop-row-init : goal.loop-row-init
 loop-row-init c = let slots = slots_items c.args.ended.now.slots in
-    (refl, refl, refl, c.requires.full, (λ k h. absurd (omega (arith, h))), λ _. ap (map end_value) c.new-ends.ensures.items ∙ rows_none c.args.sizes (entries_in c.args.sizes slots) (items_in c.args.sizes slots) c.requires.some.0 c.requires.some.1)
+    (refl, refl, refl, c.requires.full, (λ k h. absurd (omega (arith, h))), λ _. ap (map end_value) (c.reserve_exact.ensures.items ∙ c.new-ends.ensures.items) ∙ rows_none c.args.sizes (entries_in c.args.sizes slots) (items_in c.args.sizes slots) c.requires.some.0 c.requires.some.1)
 
 pub loop-row-preserved : goal.loop-row-preserved
 loop-row-preserved c =

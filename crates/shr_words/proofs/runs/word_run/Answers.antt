@@ -5,7 +5,7 @@ use Rattle.shr_words.proofs.runs.word_run.Goals as goal
 
 pub returns : goal.returns
 returns c =
-    let v = chunk c.args.at 8 c.args.bytes.now in
-    let long = length-chunk c.args.at 8 c.args.bytes.now c.requires in
-    run_in (differs 32) c.args.bytes.now c.args.at 8 _ _ c.requires (omega arith) c.type_inv.bytes c.first_set.ensures _
-    (zip2_splat {Y = ℕ} _ v 8 32 long) refl
+    let v = chunk c.args.at 16 c.args.bytes.now in
+    let long = length-chunk c.args.at 16 c.args.bytes.now c.requires in
+    run_in (differs 32) c.args.bytes.now c.args.at 16 _ _ c.requires (omega arith) c.type_inv.bytes c.first_set.ensures _
+    (zip2_splat {Y = ℕ} _ v 16 32 long) refl
