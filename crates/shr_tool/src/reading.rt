@@ -1,16 +1,19 @@
 //! Reading a source to its end.
 
-ghost use Rattle.std.specs.Prelude.{◌≤◌, ◌+◌};
+ghost use Rattle.std.specs.Prelude.{◌≡◌, ◌≤◌, ◌+◌, ◌++◌, OnOk};
 ghost use Rattle.shr_tool.specs.Reading.{ReadsInput};
 
 use shr_outside::outside::{Source, Took};
-use std::alloc::Global;
+use std::alloc::{AllocError, Global};
 
 /// The most bytes of a script. Our own.
 pub(crate) const SCRIPT_LIMIT: usize = 4_194_304;
 
 /// The most bytes of a script with a report behind it. Our own.
 pub(crate) const AUDIT_LIMIT: usize = 67_108_864;
+
+// The most bytes that are copied at once: of a longer piece the C library copies a byte at a time.
+const PIECE: usize = 2048;
 
 /// What reading a source gave. Our own.
 #[derive(Drop)]
@@ -23,6 +26,19 @@ pub enum Input {
     TooLong,
     /// There was no memory for the bytes.
     Memory,
+}
+
+// Adds bytes at the end, a piece at a time.
+fn append(bytes: &mut Vec<u8>, more: &[u8]) -> Result<(), AllocError>
+    ensures { OnOk result (bytes.new.items ≡ bytes.old.items ++ more.now) }
+{
+    let mut left = more;
+    while left.len() > PIECE {
+        let (piece, behind) = left.split_at(PIECE);
+        bytes.extend_from_slice(piece)?;
+        left = behind;
+    }
+    bytes.extend_from_slice(left)
 }
 
 /// All the bytes that are left, where there are no more than the limit. Our own.
@@ -40,7 +56,7 @@ pub fn read_all<S: Source>(alloc: Global, source: &mut S, limit: usize) -> Input
                 if n > limit - bytes.len() {
                     return Input::TooLong;
                 }
-                if bytes.extend_from_slice(&buffer[..n]).is_err() {
+                if append(&mut bytes, &buffer[..n]).is_err() {
                     return Input::Memory;
                 }
             }
