@@ -40,10 +40,13 @@ fn add_end(ends: &mut Log<PlaceEnd>, place: Place, slot: Slot) -> Result<(), Mem
 /// How many places have a journal, by their count words. Our own.
 pub(crate) fn used_places(ended: &Ended<Slot, Global>, sizes: Sizes) -> usize
     requires { (slots_len ended.now.words ≡ words_in sizes) × IsFull ended.now.words }
+    ensures { result ≤ row_count sizes }
 {
-    let mut used = 0usize;
+    let mut used = 0;
     for row in 0..sizes.rows() {
-        used = used.saturating_add(usize::from(ended.word(count_word(row)) > 0));
+        if ended.word(count_word(row)) > 0 {
+            used += 1;
+        }
     }
     used
 }

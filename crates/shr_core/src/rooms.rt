@@ -100,7 +100,7 @@ impl Core {
 
     // Takes a room, and waits where it isn't free.
     #[inline(always)]
-    fn take_free<R: Wait>(&self, rt: &R, token: &mut Token<Slot, View>, room: usize, row: usize)
+    fn take_or_wait<R: Wait>(&self, rt: &R, token: &mut Token<Slot, View>, room: usize, row: usize)
         requires seat { IsHere self.now token.old }
         requires room { IsInside (shape_of self.now) room }
         requires row { (row ≡ row_in (sizes_of (shape_of self.now)) room) × (row < 2 ^ 40) }
@@ -181,7 +181,7 @@ impl<'a> Seat<'a> {
     {
         let number = number_of(place);
         let row = self.core.row(place);
-        self.core.take_free(rt, &mut self.token, number, row);
+        self.core.take_or_wait(rt, &mut self.token, number, row);
         let list = self.core.lift(&mut self.token, row).into_list();
         self.rooms = one_more(self.rooms, number);
         Room { place, list }

@@ -12,7 +12,8 @@ pub(crate) const SCRIPT_LIMIT: usize = 4_194_304;
 /// The most bytes of a script with a report behind it. Our own.
 pub(crate) const AUDIT_LIMIT: usize = 67_108_864;
 
-// The most bytes that are copied at once: of a longer piece the C library copies a byte at a time.
+// The most bytes that are copied at once: pieces of some 4 KB and more the C library copies by one
+// instruction that is counted once a byte.
 const PIECE: usize = 2048;
 
 /// What reading a source gave. Our own.
