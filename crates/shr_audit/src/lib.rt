@@ -8,6 +8,4 @@ pub mod found;
 pub mod given;
 pub mod laws;
 pub mod script;
-#[cfg(test)]
-mod tests;
 pub mod verdict;

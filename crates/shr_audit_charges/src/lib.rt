@@ -9,7 +9,5 @@ pub mod left;
 pub mod nets;
 pub mod own;
 pub mod puts;
-#[cfg(test)]
-mod tests;
 pub mod tree;
 pub mod uses;

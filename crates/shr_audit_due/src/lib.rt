@@ -2,5 +2,3 @@
 #![tactic(auto)]
 
 pub mod due;
-#[cfg(test)]
-mod tests;

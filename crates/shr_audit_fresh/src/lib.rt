@@ -11,6 +11,4 @@ mod refused;
 mod rising;
 mod shown;
 mod started;
-#[cfg(test)]
-mod tests;
 mod told;

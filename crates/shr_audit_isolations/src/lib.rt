@@ -6,5 +6,3 @@ pub mod gathered;
 pub mod isolations;
 pub mod lawful;
 pub mod right;
-#[cfg(test)]
-mod tests;

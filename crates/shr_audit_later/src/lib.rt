@@ -6,5 +6,3 @@ mod cited;
 mod cleared;
 mod filled;
 pub mod later;
-#[cfg(test)]
-mod tests;

@@ -4,5 +4,3 @@
 pub mod found;
 pub mod law;
 pub mod met;
-#[cfg(test)]
-mod tests;

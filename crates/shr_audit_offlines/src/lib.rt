@@ -7,5 +7,3 @@ pub mod law;
 mod moved;
 mod rows;
 mod spliced;
-#[cfg(test)]
-mod tests;

@@ -12,7 +12,5 @@ pub mod pools;
 mod replies;
 mod rising;
 mod stock;
-#[cfg(test)]
-mod tests;
 mod versions;
 mod walks;

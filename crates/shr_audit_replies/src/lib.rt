@@ -10,5 +10,3 @@ pub mod law;
 pub mod numbers;
 pub mod rising;
 pub mod rows;
-#[cfg(test)]
-mod tests;

@@ -7,5 +7,3 @@ mod puts;
 mod refusals;
 mod rounds;
 mod rows;
-#[cfg(test)]
-mod tests;

@@ -4,6 +4,4 @@
 pub mod answers;
 pub mod marks;
 pub mod sweep;
-#[cfg(test)]
-mod tests;
 pub mod walks;

@@ -6,5 +6,3 @@ pub mod draws;
 pub mod idle;
 pub mod lookups;
 pub mod registrations;
-#[cfg(test)]
-mod tests;

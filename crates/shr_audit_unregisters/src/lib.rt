@@ -7,5 +7,3 @@ pub mod law;
 pub mod placed;
 pub mod rows;
 pub mod sums;
-#[cfg(test)]
-mod tests;

@@ -10,6 +10,4 @@ pub mod passes;
 pub mod scans;
 pub mod seen;
 pub mod shape;
-#[cfg(test)]
-mod tests;
 pub mod told;
