@@ -5,6 +5,10 @@
 
 pub mod formulas;
 pub mod plans;
+#[cfg(test)]
+mod recorded;
+#[cfg(test)]
+mod running;
 
 /// The number of objects per scan call where a shrinker's batch is 0.
 ///
