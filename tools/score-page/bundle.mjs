@@ -3,7 +3,7 @@
 import {readFileSync} from 'node:fs';
 
 const MODULES = [
-  'lines', 'replies', 'reading', 'script', 'replay', 'order', 'plans', 'steps', 'words', 'check', 'rows', 'look',
+  'lines', 'replies', 'reading', 'script', 'replay', 'bits', 'order', 'plans', 'steps', 'words', 'check', 'rows', 'look',
   'picture', 'search', 'panel', 'page'
 ];
 

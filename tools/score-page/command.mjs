@@ -1,46 +1,97 @@
-// The command line: a page of a report, or whether reports have an order.
+// The command line: pages of reports, and whether reports have an order.
 
-import {readFileSync} from 'node:fs';
+import {mkdirSync, writeFileSync} from 'node:fs';
 import {page_of} from './bundle.mjs';
 import {read_run} from './check.mjs';
+import {runs_of} from './files.mjs';
 
-const USAGE = 'usage: tools/score REPORT [SCRIPT] > PAGE.html\n       tools/score --check REPORT..\n';
+const USAGE = `usage: tools/score [SCRIPT] REPORT > PAGE.html
+       tools/score -o FOLDER [SCRIPT] REPORT [[SCRIPT] REPORT ..]
+       tools/score --check [SCRIPT] REPORT [[SCRIPT] REPORT ..]
+A script comes before its report; a file may also be a script with its report behind it, and - is standard input.
+`;
 
-const read = path => readFileSync(path === '-' ? 0 : path, 'latin1');
-
-function check(paths) {
-  let bad = 0;
-  for (const path of paths) {
-    const run = read_run(read(path));
-    if (run.error) bad += 1;
-    process.stdout.write(
-        run.error ? `${path}: ${run.error}\n` : `${path}: an order of its ${run.row.length} steps was found\n`);
+/** Wrong words, or a file that can't be written: what is said of it, and the status. */
+class Ending extends Error {
+  constructor(status, message) {
+    super(message);
+    this.status = status;
   }
-  return bad ? 1 : 0;
 }
 
-function draw(report_path, script_path) {
-  const report = read(report_path), script = script_path ? read(script_path) : '', run = read_run(report, script);
+const say = text => process.stderr.write(`tools/score: ${text}\n`);
+
+// Whether the report has an order and no fault, as lines; the status.
+function check({path, report, script}) {
+  const run = read_run(report, script), told = run.error ? [run.error] : run.faults.map(fault => fault.words);
+  if (!told.length) told.push(`an order of its ${run.row.length} steps was found`);
+  process.stdout.write(told.map(line => `${path}: ${line}\n`).join(''));
+  return run.error || run.faults.length ? 1 : 0;
+}
+
+const name_of = path => (path === '-' ? 'a report' : path.replace(/^.*\//, '').replace(/\.(report|input)$/, ''));
+
+// Writes the page of a report, to a file of the folder or to standard output; the status. A fault is told, and drawn too.
+function draw({path, report, script}, folder) {
+  const run = read_run(report, script);
   if (run.error) {
-    process.stderr.write(`${report_path}: ${run.error}\n`);
+    process.stderr.write(`${path}: ${run.error}\n`);
     return 1;
   }
-  const name = report_path === '-' ? 'a report' : report_path.replace(/^.*\//, '').replace(/\.report$/, '');
-  process.stdout.write(page_of(name, report, script));
-  return 0;
+  for (const fault of run.faults) process.stderr.write(`${path}: ${fault.words}\n`);
+  const page = page_of(name_of(path), report, script);
+  if (folder === null)
+    process.stdout.write(page);
+  else {
+    const file = `${folder}/${name_of(path)}.html`;
+    writeFileSync(file, page);
+    process.stdout.write(`${file}\n`);
+  }
+  return run.faults.length ? 1 : 0;
+}
+
+// What the words ask for: whether to check, the folder for pages or null, and the paths.
+function asked_by(words) {
+  const asked = {check: false, folder: null, paths: []};
+  for (let at = 0; at < words.length; at++) {
+    if (words[at] === '--check')
+      asked.check = true;
+    else if (words[at] === '-o' && at + 1 < words.length)
+      asked.folder = words[++at];
+    else if (words[at].startsWith('-') && words[at] !== '-')
+      throw new Ending(2, words[at] === '-o' ? '-o takes a FOLDER' : `${words[at]} is no option`);
+    else
+      asked.paths.push(words[at]);
+  }
+  if (!asked.paths.length) throw new Ending(2, 'a REPORT is wanted');
+  if (asked.check && asked.folder !== null) throw new Ending(2, '--check draws nothing, so it takes no -o');
+  return asked;
 }
 
 function main(words) {
-  try {
-    if (words[0] === '--check' && words.length > 1) return check(words.slice(1));
-    if (words.length >= 1 && words.length <= 2 && !words[0].startsWith('--')) return draw(...words);
-  } catch (error) {
-    if (!error.syscall) throw error;
-    process.stderr.write(`tools/score: ${error.message}\n`);
-    return 3;
+  if (['-h', '--help'].includes(words[0]) && words.length === 1) {
+    process.stdout.write(USAGE);
+    return 0;
   }
-  process.stderr.write(USAGE);
-  return 2;
+  const {check: is_check, folder, paths} = asked_by(words), {runs, wrong} = runs_of(paths);
+  for (const {path, why} of wrong) say(`${path}: ${why}`);
+  let status = Math.max(0, ...wrong.map(one => one.status));
+  if (!is_check && folder === null && runs.length > 1)
+    throw new Ending(2, 'pages of several reports take -o FOLDER, into which they are written');
+  if (folder !== null) mkdirSync(folder, {recursive: true});
+  for (const run of runs) status = Math.max(status, is_check ? check(run) : draw(run, folder));
+  return status;
 }
 
-process.exitCode = main(process.argv.slice(2));
+process.stdout.on('error', error => {
+  if (error.code !== 'EPIPE') say(`standard output: ${error.message}`);
+  process.exit(3);
+});
+try {
+  process.exitCode = main(process.argv.slice(2));
+} catch (error) {
+  if (!error.syscall && !(error instanceof Ending)) throw error;
+  say(error.message);
+  if (error.status === 2) process.stderr.write(USAGE);
+  process.exitCode = error.status ?? 3;
+}

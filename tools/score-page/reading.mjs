@@ -177,7 +177,7 @@ function scan(lines) {
 function lists(lines, report) {
   while (lines.first === 'list') {
     lines.form('list ID NODE G');
-    const list = {...place(lines, report), entries: [], items: []};
+    const list = {line: lines.number, ...place(lines, report), entries: [], items: []};
     lines.done();
     while (Object.hasOwn(ENTRIES, lines.first)) {
       const kind = lines.first, [form, rule] = ENTRIES[kind];
@@ -241,6 +241,7 @@ function ends(lines, report) {
   while (lines.first === 'bit') {
     lines.form(version === 1 ? 'bit NODE G HEX' : 'bit NODE G UNIT HEX');
     report.bits.push({
+      line: lines.number,
       node: lines.below('NODE', report.nodes),
       group: lines.below('G', groups.length),
       unit: version === 1 ? 0 : lines.below('UNIT', Math.ceil(report.ids / 64)),

@@ -16,6 +16,14 @@ export class Words {
     return `the pool ${this.report.pools[pool]} on node ${node}`;
   }
 
+  /** A list that lost its bit, and where the report says so. */
+  lost({id, node, group, cache, objects, line, bits}) {
+    const what = `the list of ${this.group(group)}, node ${node}, cache ${this.report.caches[cache]} (id ${id})`;
+    const seen = bits ? `its bit is clear (line ${bits.line}: bit ${id & 63} of ${bits.bits})` : 'the report has no line of its bit';
+    return `A bit is lost: ${what}, holds ${plural(objects, 'object')} at the end (line ${line}), and ${seen}. ` +
+        `No walk of ${this.group(group)} asks ${this.report.caches[cache]} for them.`;
+  }
+
   who(step) { return step.worker === undefined ? '' : `worker ${step.worker}, command ${step.command}`; }
 
   /** A step, without who takes it. */

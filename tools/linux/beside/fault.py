@@ -7,13 +7,24 @@ class Fault(Exception):
     """What is wrong with the words, the files or the machine, for the user to read."""
 
 
-def run_main(name, main):
-    """Ends with the status that `main` gives, or with 2 and one line where it meets a fault."""
+# what reading raises of text in no form that it knows
+FORMLESS = (ValueError, IndexError, KeyError, TypeError, AttributeError)
+
+
+def run_main(name, main, usage=""):
+    """
+    Ends with the status that `main` gives, or with 2 and one line where it meets a fault. With a usage, --help prints it.
+    """
     try:
+        if usage and sys.argv[1:] in (["-h"], ["--help"]):
+            print(usage)
+            sys.exit(0)
         status = main(sys.argv[1:])
     except Fault as fault:
         print(f"{name}: {fault}", file=sys.stderr)
         status = 2
+    except KeyboardInterrupt:
+        status = 130
     except BrokenPipeError:
         sys.stderr.close()
         status = 2

@@ -23,9 +23,19 @@ class Kernel:
     def __init__(self, folder):
         with open(f"{folder}/VERSION", encoding="ascii") as file:
             self.version = file.read().strip()
+        self.driver = f"{folder}/driver"
+        self.start()
+
+    def start(self):
+        """Starts the driver, which knows nothing yet."""
         self.process = subprocess.Popen(
-            [f"{folder}/driver"], stdin=subprocess.PIPE, stdout=subprocess.PIPE, encoding="latin-1"
+            [self.driver], stdin=subprocess.PIPE, stdout=subprocess.PIPE, encoding="latin-1"
         )
+
+    def restart(self):
+        """Starts the driver again after a script that it couldn't serve."""
+        self.close()
+        self.start()
 
     def ask(self, *lines):
         """The lines that commands are answered by. They go in pieces that a pipe holds, as the answers come back by one."""
@@ -57,7 +67,10 @@ class Kernel:
 
     def close(self):
         """Ends the process."""
-        self.process.stdin.close()
+        try:
+            self.process.stdin.close()
+        except BrokenPipeError:
+            pass
         self.process.wait()
 
     def __enter__(self):

@@ -2,7 +2,7 @@
 
 from dataclasses import dataclass, field
 
-from beside.fault import Fault
+from beside.fault import FORMLESS, Fault
 
 TOLD = (
     "held", "gone", "set", "clear", "root", "skip", "ran", "empty", "cleared", "restored", "through", "stop", "noroom",
@@ -36,6 +36,7 @@ class Attempt:
 class Listed:
     """A list: its journal, as lines with their numbers, and its items."""
 
+    line: int = 0
     entries: list = field(default_factory=list)
     items: list = field(default_factory=list)
 
@@ -63,6 +64,8 @@ class Report:
     # the tries of walks of the pools, whose ids are pools, and the units by pool and node
     of_pools: list = field(default_factory=list)
     units: dict = field(default_factory=dict)
+    # the printed bits by node, group and unit of 64 ids: number of the line, and the word
+    bits: dict = field(default_factory=dict)
 
 
 def read_report(path, text, script):
@@ -89,12 +92,12 @@ def read_report(path, text, script):
             elif words[0] == "plain":
                 walk = [worker, words[1], "0", *words[2:4], "fs"]  # as a walk of the root
             elif words[0] == "list":
-                at = report.lists.setdefault(tuple(map(int, words[1:4])), Listed())
+                at = report.lists.setdefault(tuple(map(int, words[1:4])), Listed(number))
             elif words[0] == "units":
                 at = report.units.setdefault((int(words[1]), int(words[2])), Units(number, int(words[3])))
             else:
                 read_line(report, number, words, walk, at)
-        except (ValueError, IndexError, KeyError, AttributeError):
+        except FORMLESS:
             raise Fault(f"{path}, line {number}: `{line[:60]}` is no line of a report of this script") from None
     check_totals(path, lines)
     check_replies(path, lines, script)
@@ -113,6 +116,9 @@ def read_line(report, number, words, walk, at):
         at.entries.append((number, words))
     elif words[0] in ENTRIES_OF_POOLS:
         at.entries.append((number, words[: ENTRIES_OF_POOLS[words[0]]]))
+    elif words[0] == "bit":
+        node, group, unit = int(words[1]), int(words[2]), int(words[3]) if len(words) == 5 else 0
+        report.bits[(node, group, unit)] = number, int(words[-1], 16)
     elif words[0] == "item":
         at.items.append(f"{words[3]}:{words[4]}:{words[6]}:{words[7]}")
 
