@@ -5,6 +5,4 @@
 pub mod items;
 pub mod jobs;
 pub mod law;
-#[cfg(test)]
-mod tests;
 pub mod view;

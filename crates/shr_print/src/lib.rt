@@ -8,7 +8,5 @@ mod parts;
 pub mod printing;
 mod section;
 mod sections;
-#[cfg(test)]
-mod tests;
 mod then;
 mod turns;

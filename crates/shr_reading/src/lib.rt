@@ -5,5 +5,3 @@ mod cutting;
 mod joining;
 mod parts;
 pub mod reading;
-#[cfg(test)]
-mod tests;

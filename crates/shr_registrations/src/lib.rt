@@ -5,5 +5,3 @@
 pub mod live;
 pub mod met;
 pub mod steps;
-#[cfg(test)]
-mod tests;

@@ -10,6 +10,10 @@ mod failures;
 #[cfg(test)]
 mod gates;
 #[cfg(test)]
+mod printing;
+#[cfg(test)]
+mod reading;
+#[cfg(test)]
 mod report;
 #[cfg(test)]
 mod runs;

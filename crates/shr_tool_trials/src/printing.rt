@@ -1,7 +1,5 @@
-//! A report that was printed on threads is the one that was printed alone.
+//! A report that was printed on threads is the one that was printed alone: in several turns, in one, and where it is short.
 
-use crate::cutter::Cutter;
-use crate::printing::{print_in_turns, print_on_threads};
 use shr_base::ends::{PlaceEnd, WorkerPart};
 use shr_base::items::Items;
 use shr_base::journals::{Entry, UseStep};
@@ -10,6 +8,7 @@ use shr_base::memory::Memory;
 use shr_base::places::{Place, Serial};
 use shr_base::replies::{Answered, Reply};
 use shr_outside::sinks::MemorySink;
+use shr_print::printing::print_on_threads;
 use shr_report::report::Report;
 use shr_report::text::print;
 use std::alloc::Global;
@@ -110,58 +109,33 @@ fn memory(alloc: Global) -> MemorySink {
     MemorySink::new(Vec::new(alloc), 16384, Vec::new(alloc))
 }
 
-// Whether threads print a report as one alone does, in turns of so many lines too.
-fn is_as_alone<R: Threads>(rt: &R, alloc: Global, report: &Report, turn: usize) -> bool {
+// Whether threads print a report as one alone does.
+fn is_as_alone<R: Threads>(rt: &R, alloc: Global, report: &Report) -> bool {
     let mut alone = memory(alloc);
     let mut whole = memory(alloc);
-    let mut turns = memory(alloc);
     print(report, &mut alone) == Ok(true)
         && print_on_threads(rt, alloc, report, &mut whole) == Ok(true)
         && whole.bytes() == alone.bytes()
-        && print_in_turns(rt, alloc, report, &mut turns, turn) == Ok(true)
-        && turns.bytes() == alone.bytes()
 }
 
-#[test]
-fn a_long_report_is_printed_as_alone(rt: HostRuntime) -> Result<(), Fail> {
-    let report = report(rt.alloc(), 1500, 4500)?;
-    assert!(rt; is_as_alone(&rt, rt.alloc(), &report, 80000));
-    Ok(())
-}
+// Lines of each worker and list, and operations. The first is printed in several turns of 80,000 lines or more, the second
+// in one, and the last by one thread.
+const SIZES: [(u32, u32); 3] = [(30_000, 60_000), (1500, 4500), (2, 2)];
 
-#[test]
-fn several_turns_are_printed_as_alone(rt: HostRuntime) -> Result<(), Fail> {
-    let report = report(rt.alloc(), 700, 900)?;
-    assert!(rt; is_as_alone(&rt, rt.alloc(), &report, 1000));
-    Ok(())
-}
-
-#[test]
-fn a_short_report_is_printed_as_alone(rt: HostRuntime) -> Result<(), Fail> {
-    let report = report(rt.alloc(), 2, 2)?;
-    assert!(rt; is_as_alone(&rt, rt.alloc(), &report, 1));
-    Ok(())
-}
-
-// The cuts of items of these weights, and so many of the weight 1 behind them.
-fn cuts(alloc: Global, share: usize, weights: &[usize], ones: usize) -> Result<Vec<usize>, Memory> {
-    let mut cutter = Cutter::new(alloc, share)?;
-    for weight in weights {
-        cutter.item(*weight)?;
+// The first of these reports that threads print otherwise.
+fn first_unlike<R: Threads>(rt: &R, alloc: Global) -> Result<Option<usize>, Memory> {
+    for (i, (lines, operations)) in SIZES.iter().enumerate() {
+        let report = report(alloc, *lines, *operations)?;
+        if !is_as_alone(rt, alloc, &report) {
+            return Ok(Some(i));
+        }
     }
-    cutter.row(ones)?;
-    cutter.end()
+    Ok(None)
 }
 
 #[test]
-fn parts_weigh_about_the_same(rt: HostRuntime) -> Result<(), Fail> {
-    let alloc = rt.alloc();
-    let lists = [10000, 10000, 10000, 10000, 10000, 10000, 10000, 10000, 1];
-    let four = cuts(alloc, 30001, &lists, 40000)?;
-    assert!(rt; four.as_slice() == [0, 3, 6, 10011, 40009].as_slice());
-    let workers = cuts(alloc, 2502, &[2499, 2502, 2500, 2498], 5)?;
-    assert!(rt; workers.as_slice() == [0, 1, 2, 3, 9].as_slice());
-    let large = cuts(alloc, 12, &[30, 5, 9], 0)?;
-    assert!(rt; large.as_slice() == [0, 1, 2, 3].as_slice());
+fn a_report_is_printed_as_alone(rt: HostRuntime) -> Result<(), Fail> {
+    let unlike = first_unlike(&rt, rt.alloc())?;
+    assert_eq!(rt; unlike, None);
     Ok(())
 }
