@@ -141,7 +141,7 @@ pub use Rattle.shr_node.specs.Opening.{IsFirstOpen, entry_made}
 pub use Rattle.shr_node.specs.Splicing.{AreClosings, Closing, IsClosing, IsSpliced, above_place, bits_by, bits_of_closings, group_place, made_by_closing, made_by_closings, moved_from_group, own_number}
 pub use Rattle.shr_offline.specs.Carries.{above_of, amount_taken, carries_noted, carry_moves, carry_noted}
 pub use Rattle.shr_offline.specs.Splices.{AllGives, AreSpliced, all_places, count_of_places, first_places, place_by_number}
-pub use Rattle.shr_opening.specs.Opening.{Calls, HoldsCache, IsWorkerSpent, LoadsWord, MissesCache, OnCache, RefusedAs, Uncharges}
+pub use Rattle.shr_cache.specs.Opening.{Calls, HoldsCache, IsWorkerSpent, LoadsWord, MissesCache, OnCache, RefusedAs, Uncharges}
 pub use Rattle.shr_plain.specs.Opening.{pool_sizes}
 pub use Rattle.shr_plain.specs.Seat.{PlainState, no_state}
 pub use Rattle.shr_plain.specs.declared.answers.GrabAnswer.{GrabAnswer}
@@ -198,14 +198,14 @@ pub use Rattle.shr_seats.proofs.Lining.{part-append}
 pub use Rattle.shr_tables.specs.Opened.{AreEntered, Enters, EntersIf, is_on}
 pub use Rattle.shr_tables.specs.declared.ending.Ends.{Ends}
 pub use Rattle.shr_tree.specs.Tree.{Groups}
-pub use Rattle.shr_units.proofs.Along.{slice_cases}
-pub use Rattle.shr_units.proofs.Lists.{at_some, by_slices, count_total, slice_left, some_at, sum_total}
-pub use Rattle.shr_units.proofs.Printing.{find_back, find_front, slice_map}
-pub use Rattle.shr_units.proofs.Reclaims.{not_le}
-pub use Rattle.shr_units.specs.Did.{DidPoolWalks, DidUnitsOf, IsOther, units_grab_reply, units_release_reply}
-pub use Rattle.shr_units.specs.Steps.{AreChained, UnitsStep, last_units_state, units_made_in, units_state_after, units_steps_in, units_steps_of}
-pub use Rattle.shr_units.specs.Runs.{AreUnits, IsRoomOf, IsSeenIn, IsUnitsStep}
-pub use Rattle.shr_units.proofs.FormLaw.{entered, plain_order, unit_order}
+pub use Rattle.shr_lawful.proofs.UnitAlong.{slice_cases}
+pub use Rattle.shr_lawful.proofs.UnitLists.{at_some, by_slices, count_total, slice_left, some_at, sum_total}
+pub use Rattle.shr_lawful.proofs.UnitPrinting.{find_back, find_front, slice_map}
+pub use Rattle.shr_lawful.proofs.UnitReclaims.{not_le}
+pub use Rattle.shr_lawful.specs.UnitDid.{DidPoolWalks, DidUnitsOf, IsOther, units_grab_reply, units_release_reply}
+pub use Rattle.shr_lawful.specs.UnitSteps.{AreChained, UnitsStep, last_units_state, units_made_in, units_state_after, units_steps_in, units_steps_of}
+pub use Rattle.shr_lawful.specs.UnitRuns.{AreUnits, IsRoomOf, IsSeenIn, IsUnitsStep}
+pub use Rattle.shr_lawful.proofs.UnitFormLaw.{entered, plain_order, unit_order}
 pub use Rattle.shr_walk.proofs.Doing.{called_none, does_none, does_then, moves_assoc}
 pub use Rattle.shr_walk.proofs.FreshLaws.{fresh_none, fresh_then}
 pub use Rattle.shr_walk.proofs.Held.{adds_put}

@@ -6,7 +6,7 @@ use Rattle.shr_base.specs.declared.replies.Reply.TheVariants as reply
 use Rattle.shr_base.specs.declared.replies.Spent.TheVariants as spent
 use Rattle.shr_node.specs.declared.answers.NodeAnswer.{NodeAnswer}
 use Rattle.shr_node.specs.declared.answers.NodeAnswer.TheVariants as answers
-use Rattle.shr_opening.specs.Opening.{MayCharge, OnCache, RefusedAs, Uncharges}
+use Rattle.shr_cache.specs.Opening.{MayCharge, OnCache, RefusedAs, Uncharges}
 use Rattle.shr_cache.specs.Dels.{Drops, DroppedAs, DelGives}
 use Rattle.shr_cache.specs.Replies.{UnchargesIf, answer_reply, drop_says, has_dropped}
 use Rattle.shr_assemble.proofs.QuietTenant.{brings_of, IsTenant, group_in, refused_did, acted_did, stood_did, cites_is, cited_is, place_same, entry, bits, without, one_entry, is_told, found_lookups, own_online, own_met, full_did}

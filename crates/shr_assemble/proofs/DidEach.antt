@@ -3,9 +3,9 @@ use Rattle.shr_assemble.proofs.Common.{◌≡◌, ℕ, ◌<◌, Bool, List, [], 
 use Rattle.shr_base.specs.declared.replies.Reply.TheVariants as reply
 use Rattle.shr_pool.specs.declared.items.SweepItem.TheVariants.{Walk}
 use Rattle.shr_pool.specs.declared.view.PassView.{PassView}
-use Rattle.shr_sweep.specs.declared.answers.SweepAnswer.{SweepAnswer}
-use Rattle.shr_sweep.specs.declared.answers.SweepAnswer.TheVariants as sweep
-use Rattle.shr_sweep.specs.Helping.{HelpGives, HasSwept, HasStopped, walk_of_job, visit_freed}
+use Rattle.shr_pool.specs.declared.answers.SweepAnswer.{SweepAnswer}
+use Rattle.shr_pool.specs.declared.answers.SweepAnswer.TheVariants as sweep
+use Rattle.shr_pool.specs.Helping.{HelpGives, HasSwept, HasStopped, walk_of_job, visit_freed}
 use Rattle.shr_walk.specs.Balances as balances
 use Rattle.shr_assemble.proofs.QuietTenant.{brings_of, group_in}
 use Rattle.shr_assemble.proofs.Rows.{SweptPart, IsThereItem, Worked, DidEach, IsFit}

@@ -3,9 +3,9 @@ use Rattle.shr_assemble.proofs.Common.{◌≡◌, ℕ, ◌<◌, ◌≤◌, ⊎_e
 use Rattle.shr_model.proofs.Lists.{there_at}
 use Rattle.shr_base.specs.declared.journals.PlainEntry.{PlainEntry}
 use Rattle.shr_deferred.specs.Left.{amounts}
-use Rattle.shr_rooms.specs.Rule.{IsEntryMade, CountsPrefix, times_made}
-use Rattle.shr_rooms.specs.Views.{RoomMade, RoomCount, RoomView, part_at, heard_of}
-use Rattle.shr_rooms.proofs.Parts.{part_joined}
+use Rattle.shr_seats.specs.RoomRule.{IsEntryMade, CountsPrefix, times_made}
+use Rattle.shr_seats.specs.RoomViews.{RoomMade, RoomCount, RoomView, part_at, heard_of}
+use Rattle.shr_seats.proofs.RoomParts.{part_joined}
 use Rattle.shr_plain.specs.Ending.{units_end_value}
 use Rattle.shr_plain.specs.Rule.{units}
 use Rattle.shr_worker.specs.Chain as chain
@@ -24,7 +24,7 @@ use Rattle.shr_assemble.proofs.UnitsDid.{IsElsewhere, other_reply, did_units}
 use Rattle.shr_assemble.proofs.UnitsRows.{IsDeed, IsUnitsCrew, units_crew}
 use Rattle.shr_lawful.proofs.Listed.{has_range, range_has}
 use Rattle.shr_assemble.proofs.WordPlaces.{inside_word}
-use Rattle.shr_units.proofs.Pooling.{place_back}
+use Rattle.shr_lawful.proofs.UnitPooling.{place_back}
 
 -- ---- what the first seats have in the end
 module _ (f : Firsts) (ws : List CrewState) where

@@ -7,7 +7,7 @@ use Rattle.shr_assemble.proofs.EndsTakes.{parts, others}
 use Rattle.shr_assemble.proofs.Rows.{DidEach}
 use Rattle.shr_lawful.proofs.Listed.{has_range, range_has}
 use Rattle.shr_assemble.proofs.WordPlaces.{inside_word}
-use Rattle.shr_units.proofs.Pooling.{place_back}
+use Rattle.shr_lawful.proofs.UnitPooling.{place_back}
 
 module _ (x : Shared) (did : DidEach x) (logs : List WorkerLog) (e : Ends) (ends : AreEndsOf x logs e) (r : Report) (made : IsMadeOf x.script logs e r) where
   abbrev sizes : Sizes

@@ -5,7 +5,7 @@ use Rattle.shr_base.specs.declared.replies.Spent.TheVariants as spent
 use Rattle.shr_node.specs.declared.answers.NodeAnswer.{NodeAnswer}
 use Rattle.shr_node.specs.declared.answers.NodeAnswer.TheVariants as answers
 use Rattle.shr_node.specs.Answers as lists
-use Rattle.shr_opening.specs.Opening.{OnCache}
+use Rattle.shr_cache.specs.Opening.{OnCache}
 use Rattle.shr_cache.specs.Pins.{SetPinGives}
 use Rattle.shr_cache.specs.Replies.{answer_reply, pin_says}
 use Rattle.shr_assemble.proofs.QuietSteps.{HasDid, some_met, AreTables}

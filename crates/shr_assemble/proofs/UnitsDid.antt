@@ -5,8 +5,8 @@ use Rattle.shr_script.specs.Lines.{serves_pools}
 use Rattle.shr_plain.specs.declared.answers.GrabAnswer.TheVariants as grab
 use Rattle.shr_plain.specs.declared.answers.ReleaseAnswer.TheVariants as release
 use Rattle.shr_worker.specs.Replies as worker
-use Rattle.shr_units.proofs.Pooling.{settings_length}
-use Rattle.shr_units.proofs.StepKinds.{none_due}
+use Rattle.shr_lawful.proofs.UnitPooling.{settings_length}
+use Rattle.shr_lawful.proofs.UnitStepKinds.{none_due}
 
 -- ---- which replies are of pools
 abbrev pub IsElsewhere : Command → Type 0

@@ -1,6 +1,6 @@
 -- The word of each place of a table of deferred words, by its number.
 use Rattle.shr_assemble.proofs.Common.{ℕ, ◌*◌, ◌<◌, arith, Sizes, IsPlaceOf, row_count, mul_comm, place_inside, place_of_row}
-use Rattle.shr_units.proofs.Pooling.{some_right}
+use Rattle.shr_lawful.proofs.UnitPooling.{some_right}
 
 -- each number below the number of words is that of a place
 pub inside_word : (z : Sizes) (i : ℕ) → i < row_count z → IsPlaceOf z (place_of_row z i)

@@ -29,9 +29,9 @@ use Rattle.shr_worker.specs.Chain.{CrewState, IsWorkOf, worker_commands, command
 use Rattle.shr_worker.specs.Replies.{unfound}
 use Rattle.shr_pool.specs.declared.items.SweepItem.{SweepItem}
 use Rattle.shr_pool.specs.declared.view.PassView.{PassView}
-use Rattle.shr_sweep.specs.declared.answers.SweepAnswer.{SweepAnswer}
-use Rattle.shr_sweep.specs.declared.answers.SweepAnswer.TheVariants as sweep
-use Rattle.shr_sweep.specs.Helping.{HelpGives}
+use Rattle.shr_pool.specs.declared.answers.SweepAnswer.{SweepAnswer}
+use Rattle.shr_pool.specs.declared.answers.SweepAnswer.TheVariants as sweep
+use Rattle.shr_pool.specs.Helping.{HelpGives}
 use Rattle.shr_tables.specs.declared.ending.Ends.{Ends}
 use Rattle.shr_tables.specs.Opened.{AreEntered}
 use Rattle.shr_assemble.specs.declared.logs.WorkerLog.{WorkerLog}

@@ -1,11 +1,11 @@
 -- The names that the proofs of this crate cite most, passed on from one place. Declares nothing.
 pub use Rattle.std.proofs.Common.{Bool, List, None, Option, Some, [], add_comm, ap, arith, false, get_or, inl, inr, length, map, refl, slice_get, subst, sym, true, ℕ, ◌+◌, ◌-◌, ◌<◌, ◌^◌, ◌∙◌, ◌∷◌, ◌≡◌, ◌≤◌, ◌⊎◌}
 pub use Rattle.std.proofs.lemmas.Bool.{cases_order}
-pub use Rattle.shr_audit_causes_law.proofs.Few.{few_commands, few_workers, is_tree}
+pub use Rattle.shr_audit_causes.proofs.Few.{few_commands, few_workers, is_tree}
 pub use Rattle.shr_base.specs.declared.scripts.Script.{Script}
 pub use Rattle.shr_base.specs.declared.scripts.WorkerScript.{WorkerScript}
-pub use Rattle.shr_draft.specs.Draft.{kept, with_said}
-pub use Rattle.shr_draft.specs.Reading.{nothing_read}
+pub use Rattle.shr_audit_text.specs.Draft.{kept, with_said}
+pub use Rattle.shr_audit_text.specs.Reading.{nothing_read}
 pub use Rattle.shr_report.specs.Lawful.{IsLawful}
 pub use Rattle.shr_report.specs.Replies.{AreRepliesLawful}
 pub use Rattle.shr_report.specs.declared.report.Report.{Report}

@@ -1,9 +1,9 @@
 -- Bytes are the text of one report whose lists have no room to spare.
 use Rattle.shr_audit.proofs.Common.{◌≡◌, ℕ, List, [], ◌∷◌, sym, subst, ◌∙◌, Report, nothing_read, with_said}
 use Rattle.shr_model.specs.Pieces.{pieces}
-use Rattle.shr_reader.specs.declared.said.Said.{Said}
-use Rattle.shr_draft.specs.Reading.{Says, Reads, IsReportOf}
-use Rattle.shr_draft.proofs.Whole.{reads_of}
+use Rattle.shr_audit_text.specs.declared.said.Said.{Said}
+use Rattle.shr_audit_text.specs.Reading.{Says, Reads, IsReportOf}
+use Rattle.shr_audit_text.proofs.Whole.{reads_of}
 use Rattle.shr_model.proofs.Lists.{some_injective}
 
 one_said : (version : ℕ) (line : List ℕ) (x y : Said) → Says version line x → Says version line y → x ≡ y

@@ -4,7 +4,7 @@ use Rattle.std.specs.List.{AllByRecursion}
 use Rattle.shr_base.specs.Kept.{Kept}
 use Rattle.shr_base.specs.declared.scripts.Command.{Command}
 use Rattle.shr_script.proofs.ContentLaws.{same_content}
-use Rattle.shr_draft.proofs.Lasts.{tight_is}
+use Rattle.shr_audit_text.proofs.Lasts.{tight_is}
 
 -- a worker of these commands, with a list that has no room to spare
 worker_from : List Command → WorkerScript

@@ -4,8 +4,8 @@ use Rattle.std.specs.List.{AllByRecursion}
 use Rattle.shr_base.specs.declared.scripts.Script.{Script}
 use Rattle.shr_base.specs.declared.scripts.WorkerScript.{WorkerScript}
 use Rattle.shr_script.specs.Content.{content_of, IsSpelling}
-use Rattle.shr_draft.specs.Draft.{kept}
-use Rattle.shr_draft.specs.Reading.{IsTight}
+use Rattle.shr_audit_text.specs.Draft.{kept}
+use Rattle.shr_audit_text.specs.Reading.{IsTight}
 
 -- a worker's list of commands has no room to spare
 abbrev pub IsTightWorker : WorkerScript → Type 0

@@ -15,8 +15,8 @@ use Rattle.shr_report.specs.Pools.{ArePoolsLawful}
 use Rattle.shr_report.specs.Isolated.{AreIsolationsLawful}
 use Rattle.shr_report.specs.Swept.{IsSweepLawful}
 use Rattle.shr_report.specs.Lawful.{IsBagLawful, IsLawful}
-use Rattle.shr_draft.specs.Reading.{IsReportOf}
-use Rattle.shr_audit_once.specs.Once.{AreCitedOnce}
+use Rattle.shr_audit_text.specs.Reading.{IsReportOf}
+use Rattle.shr_audit_values.specs.Once.{AreCitedOnce}
 use Rattle.shr_audit.specs.declared.verdict.Law.{Law}
 use Rattle.shr_audit.specs.declared.verdict.Law.TheVariants as laws
 use Rattle.shr_audit.specs.declared.verdict.Verdict.{Verdict}

@@ -6,11 +6,11 @@ ghost use Rattle.shr_report.specs.declared.report.Report.{Report};
 ghost use Rattle.shr_report.specs.Text.{text};
 ghost use Rattle.shr_report.specs.WellFormed.{IsWellFormed};
 ghost use Rattle.shr_report.specs.Numbers.{HasNumbers};
-ghost use Rattle.shr_draft.specs.Reading.{IsReportOf};
+ghost use Rattle.shr_audit_text.specs.Reading.{IsReportOf};
 
+use shr_audit_formed::formed::is_well_formed;
+use shr_audit_text::reading::read;
 use shr_base::memory::Memory;
-use shr_draft::reading::read;
-use shr_formed::formed::is_well_formed;
 use shr_outside::sinks::MemorySink;
 use shr_report::report::Report;
 use shr_report::text::print;

@@ -1,8 +1,17 @@
-mod Common
-pub mod Noting
-pub mod Treeing
-mod Wearing
-pub mod Phases
-mod Behinds
-mod Making
-mod CausesValues
+pub mod Few
+mod Fields
+mod Whole
+mod OfflinesCommon
+mod AboveLaws
+pub mod CarriedLaws
+mod MovedLaws
+mod OfflinesValues
+mod PathLaws
+mod OfflineRowLaws
+mod SplicedLaws
+mod TreeLaws
+mod UnregistersCommon
+mod BeganLaws
+mod UnregisterRowLaws
+pub mod SumsLaws
+mod UnregistersValues

@@ -1,5 +1,11 @@
-pub mod Walks
-pub mod Cites
-pub mod Behind
-pub mod Trees
-pub mod Registrations
+pub mod Rows
+pub mod Above
+pub mod Carried
+pub mod Moved
+pub mod OfflineRows
+pub mod Spliced
+pub mod Began
+pub mod Ended
+pub mod Placed
+pub mod UnregisterRows
+pub mod Sums

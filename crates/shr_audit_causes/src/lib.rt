@@ -1,11 +1,20 @@
-//! Whether what a report says has its cause in the report. Our own.
+//! Whether the law on causes holds of a report. Our own.
+//!
+//! The causes of the answers to an `offline` that was done. Our own.
+//!
+//! The causes of the answers to an `unregister` that drained. Our own.
 #![tactic(auto)]
 
-pub mod attempts;
-mod behind;
-pub mod cites;
-pub mod drains;
-pub mod registrations;
-pub mod tree;
-pub mod trees;
-pub mod walks;
+mod above;
+pub mod began;
+mod carried;
+pub mod ended;
+pub mod law;
+mod moved;
+mod offline_rows;
+pub mod offlines;
+pub mod placed;
+mod spliced;
+pub mod sums;
+pub mod unregister_rows;
+pub mod unregisters;

@@ -5,8 +5,8 @@ use Rattle.shr_base.specs.declared.places.Target.{Target}
 use Rattle.shr_base.specs.declared.replies.Reply.TheVariants as reply
 use Rattle.shr_base.specs.declared.scripts.Command.TheVariants as command
 use Rattle.shr_model.specs.Items.{step, first_moved, later_moved, items_from}
-use Rattle.shr_replay.specs.Journals.{freed_tags}
-use Rattle.shr_replay.specs.Tags.{freed_tag}
+use Rattle.shr_audit_case.specs.Journals.{freed_tags}
+use Rattle.shr_audit_case.specs.Tags.{freed_tag}
 use Rattle.shr_audit_charges.specs.Nets as nets
 use Rattle.shr_audit_charges.proofs.LeftLaw.{keys_of, ways, ways_cons}
 use Rattle.shr_audit_charges.proofs.OwnLaw.{own, IsOwn, own_or_not, same_serial}

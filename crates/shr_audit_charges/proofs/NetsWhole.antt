@@ -5,7 +5,7 @@ use Rattle.shr_base.specs.declared.journals.Entry.TheVariants as entry
 use Rattle.shr_base.specs.declared.walks.Isolation.{Isolation}
 use Rattle.shr_base.specs.Walks.{WalkRecord}
 use Rattle.shr_model.specs.Places.{is_place}
-use Rattle.shr_formed.proofs.Eachs.{each_in}
+use Rattle.shr_audit_formed.proofs.Eachs.{each_in}
 use Rattle.shr_audit_charges.proofs.BalanceLaw.{none_of}
 use Rattle.shr_audit_charges.proofs.LeftLaw.{keys_of}
 use Rattle.shr_audit_charges.proofs.NetsLaw.{InRange, InRangeIf, Short, Charges, charges, key_in, own_ways, workers_count, ends_count}

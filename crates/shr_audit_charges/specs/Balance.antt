@@ -1,6 +1,6 @@
 -- Keys that go up and keys that go down.
 use Rattle.std.specs.Prelude.{◌≡◌, ℕ, Bool, ◌==◌, cond, List, count_by}
-use Rattle.shr_sums.specs.declared.moves.Move.{Move}
+use Rattle.shr_audit_case.specs.declared.moves.Move.{Move}
 
 -- each key goes up as often as it goes down
 abbrev pub AreBalanced : List ℕ → List ℕ → Type 0

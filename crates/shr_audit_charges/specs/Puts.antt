@@ -5,7 +5,7 @@ use Rattle.shr_base.specs.declared.journals.UseStep.{UseStep}
 use Rattle.shr_base.specs.declared.scripts.Script.{Script}
 use Rattle.shr_model.specs.Commands.{is_put}
 use Rattle.shr_report.specs.Parts.{command_at}
-use Rattle.shr_formed.specs.Each.{EachItem}
+use Rattle.shr_audit_formed.specs.Each.{EachItem}
 
 -- an operation that goes up is of a put
 abbrev pub IsUpOfPut : Script → UseStep → Type 0

@@ -4,8 +4,8 @@ ghost use Rattle.std.specs.Prelude.{◌≡◌, ◌++◌, ◌<◌, ◌^◌, map, 
 ghost use Rattle.std.specs.Bool.{Decides};
 ghost use Rattle.shr_audit_charges.specs.Balance.{AreBalanced, unit};
 
+use shr_audit_case::moves::{Move, is_settled};
 use shr_base::memory::Memory;
-use shr_sums::moves::{Move, is_settled};
 use std::alloc::Global;
 
 // A key that goes up, or down, by one.

@@ -2,7 +2,7 @@
 
 ghost use Rattle.std.specs.Prelude.{◌≡◌, IfOk};
 ghost use Rattle.std.specs.Bool.{Decides};
-ghost use Rattle.shr_case.specs.Lists.{IsCaseOf};
+ghost use Rattle.shr_audit_case.specs.Lists.{IsCaseOf};
 ghost use Rattle.shr_model.specs.Groups.{IsTree};
 ghost use Rattle.shr_report.specs.Charges.{AreChargesLawful};
 ghost use Rattle.shr_report.specs.Numbers.{HasNumbers};
@@ -16,9 +16,9 @@ use crate::nets::are_nets;
 use crate::own::are_own_right;
 use crate::puts::are_ups_of_puts;
 use crate::tree::is_tree_journal;
+use shr_audit_case::case::Case;
 use shr_base::memory::Memory;
 use shr_base::scripts::Script;
-use shr_case::case::Case;
 use shr_report::report::Report;
 use std::alloc::Global;
 

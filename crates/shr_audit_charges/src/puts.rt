@@ -3,9 +3,9 @@
 ghost use Rattle.std.specs.Bool.{Decides};
 ghost use Rattle.shr_audit_charges.specs.Puts.{AreUpsOfPuts, IsUpOfPut};
 
+use shr_audit_case::serials::command_at;
 use shr_base::journals::UseStep;
 use shr_base::scripts::{Command, Script};
-use shr_case::serials::command_at;
 
 // Whether an operation that goes up is of a put.
 fn is_up_of_put(script: &Script, step: UseStep) -> bool

@@ -11,9 +11,9 @@ pub use Rattle.std.specs.HashMap.{get}
 pub use Rattle.std.specs.List.{AllByRecursion, list_any}
 pub use Rattle.std.specs.Option.{IsSomeAnd}
 pub use Rattle.std.specs.Prelude.{filter, flat_map, nat_eq, nat_le, nat_lt, not, option_and_then, option_map, option_to_list, ◌&&◌, ◌==◌, ◌||◌, ◌↔◌}
-pub use Rattle.shr_audit_causes.specs.Cites.{AreCited, AnswerCites, TellsCited, cited_in}
-pub use Rattle.shr_audit_causes.specs.declared.cites.Cited.{Cited}
-pub use Rattle.shr_audit_causes.specs.declared.cites.Cited.TheVariants.{Never, Often, Once}
+pub use Rattle.shr_audit_reasons.specs.Cites.{AreCited, AnswerCites, TellsCited, cited_in}
+pub use Rattle.shr_audit_reasons.specs.declared.cites.Cited.{Cited}
+pub use Rattle.shr_audit_reasons.specs.declared.cites.Cited.TheVariants.{Never, Often, Once}
 pub use Rattle.shr_base.specs.declared.journals.TreeEntry.{TreeEntry}
 pub use Rattle.shr_base.specs.declared.places.Serial.{Serial}
 pub use Rattle.shr_base.specs.declared.replies.Answered.{Answered}
@@ -21,8 +21,8 @@ pub use Rattle.shr_base.specs.declared.replies.Reply.{Reply}
 pub use Rattle.shr_base.specs.declared.scripts.Script.{Script}
 pub use Rattle.shr_base.specs.Walks.{WalkRecord}
 pub use Rattle.std.proofs.lemmas.Bool.{or_left, or_right}
-pub use Rattle.shr_formed.proofs.Eachs.{fails}
-pub use Rattle.shr_formed.specs.Each.{EachItem}
+pub use Rattle.shr_audit_formed.proofs.Eachs.{fails}
+pub use Rattle.shr_audit_formed.specs.Each.{EachItem}
 pub use Rattle.shr_model.proofs.Lists.{all_both, some_injective, some_same, zero_more}
 pub use Rattle.shr_model.specs.Commands.{asks_online, is_serial}
 pub use Rattle.shr_model.specs.TreeJournal.{is_begin, is_done}

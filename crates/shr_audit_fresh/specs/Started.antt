@@ -3,9 +3,9 @@ use Rattle.std.specs.Prelude.{◌≡◌, ℕ, Bool, true, false, not, ◌||◌, 
 use Rattle.std.specs.List.{list_any}
 use Rattle.shr_base.specs.declared.replies.Answered.{Answered}
 use Rattle.shr_base.specs.Walks.{WalkRecord}
-use Rattle.shr_audit_causes.specs.declared.cites.Cited.{Cited}
-use Rattle.shr_audit_causes.specs.declared.cites.Cited.TheVariants.{Never, Once, Often}
-use Rattle.shr_audit_causes.specs.Cites.{cited_in}
+use Rattle.shr_audit_reasons.specs.declared.cites.Cited.{Cited}
+use Rattle.shr_audit_reasons.specs.declared.cites.Cited.TheVariants.{Never, Once, Often}
+use Rattle.shr_audit_reasons.specs.Cites.{cited_in}
 use Rattle.shr_report.specs.declared.report.Report.{Report}
 use Rattle.shr_report.specs.Freshness.{is_begin_at, of_answer, tree_cited, walk_cited}
 use Rattle.shr_report.specs.Parts.{serial_of}

@@ -2,9 +2,9 @@
 
 ghost use Rattle.std.specs.Prelude.{◌≡◌, length, IfOk};
 ghost use Rattle.std.specs.Bool.{Decides};
-ghost use Rattle.shr_audit_causes.specs.declared.cites.What.TheVariants as say;
-ghost use Rattle.shr_audit_causes.specs.Cites.{AreCited};
-ghost use Rattle.shr_formed.specs.Each.{EachItem};
+ghost use Rattle.shr_audit_reasons.specs.declared.cites.What.TheVariants as say;
+ghost use Rattle.shr_audit_reasons.specs.Cites.{AreCited};
+ghost use Rattle.shr_audit_formed.specs.Each.{EachItem};
 ghost use Rattle.shr_report.specs.Freshness.{IsFresh};
 ghost use Rattle.shr_report.specs.Parts.{answers_of, decls_on};
 ghost use Rattle.shr_report.specs.WellFormed.{IsTreeNumbered};
@@ -16,12 +16,12 @@ use crate::own::{is_own_below, is_shown_below};
 use crate::refused::is_refused;
 use crate::rising::{is_pool_rising, is_tree_rising};
 use crate::started::is_begin_started;
-use shr_audit_causes::cites::{Cited, What, note_answers};
-use shr_audit_causes::registrations::count_on;
+use shr_audit_formed::tables::tree_fits;
+use shr_audit_reasons::cites::{Cited, What, note_answers};
+use shr_audit_reasons::registrations::count_on;
 use shr_base::memory::Memory;
 use shr_base::replies::Answered;
 use shr_base::scripts::Script;
-use shr_formed::tables::tree_fits;
 use shr_report::report::Report;
 use std::alloc::Global;
 

@@ -3,9 +3,9 @@
 ghost use Rattle.std.specs.Prelude.{◌≡◌, ℕ, true, option_to_list};
 ghost use Rattle.std.specs.Bool.{Decides};
 ghost use Rattle.std.specs.List.{list_any};
-ghost use Rattle.shr_audit_causes.specs.declared.cites.What.TheVariants as say;
-ghost use Rattle.shr_audit_causes.specs.Cites.{AreCited, cited_in};
-ghost use Rattle.shr_formed.specs.Each.{EachItem};
+ghost use Rattle.shr_audit_reasons.specs.declared.cites.What.TheVariants as say;
+ghost use Rattle.shr_audit_reasons.specs.Cites.{AreCited, cited_in};
+ghost use Rattle.shr_audit_formed.specs.Each.{EachItem};
 ghost use Rattle.shr_report.specs.Freshness.{is_begin_at};
 ghost use Rattle.shr_report.specs.Parts.{walks_of};
 ghost use Rattle.shr_report.specs.WellFormed.{IsTreeNumbered};
@@ -14,7 +14,7 @@ ghost use Rattle.shr_audit_fresh.specs.Worker.{IsBeginStarted};
 
 use crate::shown::begin_at;
 use crate::told::{cited_by, walk_cited, walks_of};
-use shr_audit_causes::cites::{Cited, cited_at};
+use shr_audit_reasons::cites::{Cited, cited_at};
 use shr_audit_replies::numbers::count_answers;
 use shr_base::scripts::Script;
 use shr_base::walks::WalkRecord;

@@ -6,10 +6,10 @@ use Rattle.shr_base.specs.declared.places.Serial.{Serial}
 use Rattle.shr_base.specs.declared.scripts.Command.{Command}
 use Rattle.shr_model.specs.Commands.{is_serial}
 use Rattle.shr_report.specs.WellFormed.{IsWellFormed}
-use Rattle.shr_formed.proofs.WellParts.{parts_of}
-use Rattle.shr_case.specs.Each.{AnswersInParts}
-use Rattle.shr_case.proofs.Eachs.{each_answer_of}
-use Rattle.shr_audit_walks.proofs.Answered.{here_at, same_test}
+use Rattle.shr_audit_formed.proofs.WellParts.{parts_of}
+use Rattle.shr_audit_case.specs.Each.{AnswersInParts}
+use Rattle.shr_audit_case.proofs.Eachs.{each_answer_of}
+use Rattle.shr_audit_passes.proofs.Answered.{here_at, same_test}
 
 -- ---- isolations in the order of their commands
 

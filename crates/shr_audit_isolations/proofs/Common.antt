@@ -15,8 +15,8 @@ pub use Rattle.shr_base.specs.declared.places.Place.{Place}
 pub use Rattle.shr_base.specs.declared.replies.Answered.{Answered}
 pub use Rattle.shr_base.specs.declared.scripts.Script.{Script}
 pub use Rattle.shr_base.specs.declared.walks.Isolation.{Isolation}
-pub use Rattle.shr_formed.proofs.Eachs.{all_at, below_of, clash, each_all, each_more, fails, more_at}
-pub use Rattle.shr_formed.specs.Each.{EachItem, IsWorkerCommand}
+pub use Rattle.shr_audit_formed.proofs.Eachs.{all_at, below_of, clash, each_all, each_more, fails, more_at}
+pub use Rattle.shr_audit_formed.specs.Each.{EachItem, IsWorkerCommand}
 pub use Rattle.shr_model.specs.Isolations.{IsLawfulIsolation, Met, ScanSeen, first_isolation, isolation_walk, met_of, met_one, mets_of}
 pub use Rattle.shr_model.specs.Places.{is_place}
 pub use Rattle.shr_report.specs.Isolated.{AreIsolationsLawful, IsOfIsolation, isolations_by, isolations_told, scan_seen, scans_seen}

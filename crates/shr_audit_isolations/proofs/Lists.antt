@@ -3,9 +3,9 @@ use Rattle.shr_audit_isolations.proofs.Common.{◌≡◌, ℕ, zero, suc, ◌+�
 use Rattle.std.proofs.lemmas.Bool.{cases_Bool}
 use Rattle.shr_base.specs.declared.ends.PlaceEnd.{PlaceEnd}
 use Rattle.shr_model.proofs.PlacesLaws.{is_place_same, is_place_itself}
-use Rattle.shr_case.specs.Places.{IsFirst, end_printed}
-use Rattle.shr_case.proofs.Eachs.{each_entry_of}
-use Rattle.shr_case.proofs.Firsts.{none_found}
+use Rattle.shr_audit_case.specs.Places.{IsFirst, end_printed}
+use Rattle.shr_audit_case.proofs.Eachs.{each_entry_of}
+use Rattle.shr_audit_case.proofs.Firsts.{none_found}
 use Rattle.shr_audit_isolations.proofs.Gathering.{gains_same, gains_then, no_gain, told_after, told_before}
 use Rattle.shr_audit_isolations.proofs.Options.{map_then, some_mapped, some_unmapped}
 use Rattle.shr_model.proofs.Lists.{there_at, taken_at, some_injective}

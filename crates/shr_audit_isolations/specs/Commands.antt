@@ -5,7 +5,7 @@ use Rattle.shr_base.specs.declared.replies.Answered.{Answered}
 use Rattle.shr_base.specs.declared.scripts.Command.{Command}
 use Rattle.shr_base.specs.declared.scripts.Script.{Script}
 use Rattle.shr_base.specs.declared.walks.Isolation.{Isolation}
-use Rattle.shr_formed.specs.Each.{Adjacent}
+use Rattle.shr_audit_formed.specs.Each.{Adjacent}
 use Rattle.shr_report.specs.Isolated.{isolations_told}
 use Rattle.shr_report.specs.Parts.{commands_of, serial_of}
 

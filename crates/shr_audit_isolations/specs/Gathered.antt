@@ -13,8 +13,8 @@ use Rattle.shr_model.specs.Isolations.{ScanSeen, first_isolation, isolation_walk
 use Rattle.shr_report.specs.declared.report.Report.{Report}
 use Rattle.shr_report.specs.Isolated.{scans_seen}
 use Rattle.shr_report.specs.Parts.{isolation_at, journal_of, journals_of}
-use Rattle.shr_formed.specs.Each.{EachItem}
-use Rattle.shr_case.specs.Places.{IsFirst, end_printed}
+use Rattle.shr_audit_formed.specs.Each.{EachItem}
+use Rattle.shr_audit_case.specs.Places.{IsFirst, end_printed}
 use Rattle.shr_audit_isolations.specs.declared.gathered.Gathered.{Gathered}
 use Rattle.shr_audit_isolations.specs.declared.gathered.IsolationScan.{IsolationScan}
 

@@ -13,7 +13,7 @@ use Rattle.shr_model.specs.Isolations.{IsLawfulIsolation, isolation_walk}
 use Rattle.shr_report.specs.declared.report.Report.{Report}
 use Rattle.shr_report.specs.Isolated.{EachIsolation, IsEndCaused, IsOfIsolation, cache_named, scans_seen}
 use Rattle.shr_report.specs.Parts.{EachEntry, journals_of}
-use Rattle.shr_formed.specs.Each.{EachItem}
+use Rattle.shr_audit_formed.specs.Each.{EachItem}
 use Rattle.shr_audit_isolations.specs.declared.gathered.Gathered.{Gathered}
 use Rattle.shr_audit_isolations.specs.Gathered.{IsolationTold, told_of}
 

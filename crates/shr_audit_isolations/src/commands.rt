@@ -5,7 +5,7 @@ ghost use Rattle.std.specs.Bool.{Decides};
 ghost use Rattle.shr_base.specs.declared.places.Serial.{Serial};
 ghost use Rattle.shr_base.specs.declared.scripts.Command.{Command};
 ghost use Rattle.shr_base.specs.declared.walks.Isolation.{Isolation};
-ghost use Rattle.shr_formed.specs.Each.{EachItem};
+ghost use Rattle.shr_audit_formed.specs.Each.{EachItem};
 ghost use Rattle.shr_report.specs.Isolated.{isolations_by, isolations_told};
 ghost use Rattle.shr_report.specs.Parts.{commands_of, EachAnswer};
 ghost use Rattle.shr_report.specs.WellFormed.{IsWellFormed};

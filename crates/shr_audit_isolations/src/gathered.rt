@@ -3,19 +3,19 @@
 ghost use Rattle.std.specs.Prelude.{◌≡◌, ℕ, ◌<◌, ◌∷◌, [], length, map, slice_get, option_map, IfOk, IfSome, IfNone, IsTrue};
 ghost use Rattle.std.specs.Bool.{Decides};
 ghost use Rattle.std.specs.Option.{IsSomeAnd};
-ghost use Rattle.shr_formed.specs.Each.{EachItem};
+ghost use Rattle.shr_audit_formed.specs.Each.{EachItem};
 ghost use Rattle.shr_report.specs.Isolated.{IsOfIsolation};
 ghost use Rattle.shr_report.specs.Parts.{EachEntry};
-ghost use Rattle.shr_case.specs.Places.{AreInOrder};
+ghost use Rattle.shr_audit_case.specs.Places.{AreInOrder};
 ghost use Rattle.shr_audit_isolations.specs.Gathered.{AreGathered, GainsScans, IsGatheringBegun, IsOfTheirs, IsOfTold, RowGains, TableGains, at_place, begun, journals_to, new_at, pushed, seen_of, told_at, told_of};
 
+use shr_audit_case::places::is_first;
 use shr_base::ends::{PlaceEnd, WorkerPart};
 use shr_base::journals::Entry;
 use shr_base::memory::Memory;
 use shr_base::objects::Policy;
 use shr_base::places::Place;
 use shr_base::walks::Isolation;
-use shr_case::places::is_first;
 use shr_report::report::Report;
 use std::alloc::Global;
 

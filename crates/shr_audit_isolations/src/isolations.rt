@@ -4,13 +4,13 @@ ghost use Rattle.std.specs.Prelude.{IfOk};
 ghost use Rattle.std.specs.Bool.{Decides};
 ghost use Rattle.shr_report.specs.Isolated.{AreIsolationsLawful};
 ghost use Rattle.shr_report.specs.WellFormed.{IsWellFormed};
-ghost use Rattle.shr_audit_spent.specs.Counted.{IsCountOf};
+ghost use Rattle.shr_audit_reasons.specs.Counted.{IsCountOf};
 ghost use Rattle.shr_audit_isolations.specs.Right.{AreGatheredRight};
 
 use crate::commands::are_told;
 use crate::gathered::gather;
 use crate::right::are_rows_right;
-use shr_audit_spent::counted::Counted;
+use shr_audit_reasons::counted::Counted;
 use shr_base::memory::Memory;
 use shr_base::scripts::Script;
 use shr_report::report::Report;

@@ -3,7 +3,7 @@
 ghost use Rattle.std.specs.Prelude.{◌≡◌, ◌++◌, ◌∷◌, [], map, replicate, sum_by};
 ghost use Rattle.std.specs.Bool.{Decides};
 ghost use Rattle.shr_model.specs.Isolations.{IsLawfulIsolation, met_one, mets_of};
-ghost use Rattle.shr_formed.specs.Each.{EachItem};
+ghost use Rattle.shr_audit_formed.specs.Each.{EachItem};
 ghost use Rattle.shr_audit_isolations.specs.Gathered.{seen_of};
 ghost use Rattle.shr_audit_isolations.specs.Lawful.{IsAskedAlike, IsBounded, isolation_freed, met, met_by};
 

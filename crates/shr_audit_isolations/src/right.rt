@@ -2,23 +2,23 @@
 
 ghost use Rattle.std.specs.Prelude.{◌≡◌, ◌<◌, length, option_copied};
 ghost use Rattle.std.specs.Bool.{Decides};
-ghost use Rattle.shr_formed.specs.Each.{EachItem};
+ghost use Rattle.shr_audit_formed.specs.Each.{EachItem};
 ghost use Rattle.shr_model.specs.Commands.{decl_named};
 ghost use Rattle.shr_report.specs.Isolated.{cache_named};
-ghost use Rattle.shr_case.specs.Places.{AreInOrder};
-ghost use Rattle.shr_audit_spent.specs.Counted.{IsCountOf};
+ghost use Rattle.shr_audit_case.specs.Places.{AreInOrder};
+ghost use Rattle.shr_audit_reasons.specs.Counted.{IsCountOf};
 ghost use Rattle.shr_audit_isolations.specs.Gathered.{told_of};
 ghost use Rattle.shr_audit_isolations.specs.Right.{AreRowsRight, IsEndRight, IsMadeRight, IsToldRight, cache_of_command};
 
 use crate::gathered::Gathered;
 use crate::lawful::is_lawful;
-use shr_audit_spent::counted::Counted;
-use shr_audit_spent::spent::{is_closed_at, is_spent};
+use shr_audit_case::serials::command_at;
+use shr_audit_reasons::counted::Counted;
+use shr_audit_reasons::spent::{is_closed_at, is_spent};
 use shr_base::places::Serial;
 use shr_base::replies::IsolateEnd;
 use shr_base::scripts::{CacheDecl, Command, Script};
 use shr_base::walks::Isolation;
-use shr_case::serials::command_at;
 use shr_report::report::Report;
 
 // The declaration that a command names.

@@ -14,10 +14,10 @@ pub use Rattle.shr_base.specs.declared.journals.TreeEntry.{TreeEntry}
 pub use Rattle.shr_base.specs.declared.journals.TreeEntry.TheVariants.{Begin, Done}
 pub use Rattle.shr_base.specs.declared.places.Place.{Place}
 pub use Rattle.shr_base.specs.declared.scripts.Script.{Script}
-pub use Rattle.shr_case.proofs.Eachs.{decides_iff}
-pub use Rattle.shr_case.proofs.Firsts.{IsFound, first_found, found_or_none}
-pub use Rattle.shr_case.specs.Each.{EachFirst}
-pub use Rattle.shr_case.specs.Places.{IsFirst}
+pub use Rattle.shr_audit_case.proofs.Eachs.{decides_iff}
+pub use Rattle.shr_audit_case.proofs.Firsts.{IsFound, first_found, found_or_none}
+pub use Rattle.shr_audit_case.specs.Each.{EachFirst}
+pub use Rattle.shr_audit_case.specs.Places.{IsFirst}
 pub use Rattle.shr_model.proofs.GroupsLaws.{child_again, child_higher, child_takes, path_of-below, path_of-root}
 pub use Rattle.shr_model.proofs.Members.{Contains_from_Has, Has, Has_from_Contains}
 pub use Rattle.shr_model.specs.Families.{AreChildrenMovedIn, IsAllowed, IsBornAt, IsPaired, IsPairedAt, MayStand, child_of, items_of, lists_moved_at, moved_in}

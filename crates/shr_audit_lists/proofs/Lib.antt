@@ -6,3 +6,12 @@ mod Pairing
 mod Allowing
 mod Whole
 mod ListsValues
+mod BagCommon
+mod BagLaw
+mod BitsCommon
+mod Wording
+mod Phasing
+mod Setting
+mod SerialsCommon
+mod Distinct
+mod Sorting

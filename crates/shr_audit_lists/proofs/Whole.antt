@@ -1,8 +1,8 @@
 -- The objects that are printed for a place, where no place is printed twice; and the whole law on journals.
 use Rattle.shr_audit_lists.proofs.Common.{◌≡◌, ℕ, ◌<◌, Bool, true, false, List, get_or, Some, refl, sym, ap, subst, ◌∙◌, arith, length, slice_get, Decides, get_or_from_slice_get, Place, PlaceEnd, Script, IsPaired, Report, AreJournalsLawful, journals_of, parents_of, IsFirst, AreBegunIfClosed, HaveGroups, AreDoneClosed, AreItemsLeft, AreOutcomesSo, ArePlacesOnce, ArePlacesThere, IsItemsLeft, IsPlaceStanding, items_of, first_found}
 use Rattle.shr_base.specs.declared.objects.Object.{Object}
-use Rattle.shr_replay.specs.Groups.{printed_items}
-use Rattle.shr_case.specs.Lists.{items_printed_in}
+use Rattle.shr_audit_case.specs.Groups.{printed_items}
+use Rattle.shr_audit_case.specs.Lists.{items_printed_in}
 
 pub left_here : (parents : List ℕ) (r : Report) (ends : List PlaceEnd) → ends ≡ r.places.items → ArePlacesOnce r → (k : ℕ) (d : PlaceEnd) (b : Bool)
     → Decides b (items_printed_in r.places.items (get_or ends k d).place ≡ items_of parents (journals_of r) (get_or ends k d).place) → (end : PlaceEnd) → slice_get r.places.items k ≡ Some end → Decides b (IsItemsLeft parents r end)

@@ -5,15 +5,15 @@ ghost use Rattle.std.specs.Bool.{Decides};
 ghost use Rattle.shr_base.specs.declared.ends.PlaceEnd.{PlaceEnd};
 ghost use Rattle.shr_base.specs.declared.journals.TreeEntry.TheVariants.{Begin};
 ghost use Rattle.shr_model.specs.Groups.{IsTree};
-ghost use Rattle.shr_case.specs.Each.{EachFirst};
-ghost use Rattle.shr_case.specs.Places.{AreInOrder, IsFirst};
+ghost use Rattle.shr_audit_case.specs.Each.{EachFirst};
+ghost use Rattle.shr_audit_case.specs.Places.{AreInOrder, IsFirst};
 ghost use Rattle.shr_audit_lists.specs.Begun.{AreBegun, AreBegunIfClosed, HaveGroups, HasBegunAbove, IsBegunIfClosed};
 
 use crate::done::is_closed;
+use shr_audit_case::places::{is_first, journal_at};
 use shr_base::journals::TreeEntry;
 use shr_base::memory::Memory;
 use shr_base::places::Place;
-use shr_case::places::{is_first, journal_at};
 use shr_report::report::Report;
 use std::alloc::Global;
 

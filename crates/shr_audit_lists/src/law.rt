@@ -5,7 +5,7 @@ ghost use Rattle.std.specs.Bool.{Decides};
 ghost use Rattle.shr_model.specs.Groups.{IsTree};
 ghost use Rattle.shr_report.specs.Journals.{AreJournalsLawful};
 ghost use Rattle.shr_report.specs.Parts.{parents_of};
-ghost use Rattle.shr_case.specs.Lists.{IsCaseOf};
+ghost use Rattle.shr_audit_case.specs.Lists.{IsCaseOf};
 
 use crate::begun::are_closed_begun;
 use crate::done::are_done_closed;
@@ -13,9 +13,9 @@ use crate::left::are_items_left;
 use crate::paired::are_journals_paired;
 use crate::places::{are_outcomes_so, are_places_once, are_places_there};
 use crate::standing::are_entries_standing;
+use shr_audit_case::case::Case;
 use shr_base::memory::Memory;
 use shr_base::scripts::Script;
-use shr_case::case::Case;
 use shr_report::report::Report;
 use std::alloc::Global;
 

@@ -3,10 +3,10 @@
 ghost use Rattle.std.specs.Prelude.{◌≡◌, ◌<◌, Some, length, slice_get};
 ghost use Rattle.std.specs.Bool.{Decides};
 ghost use Rattle.shr_base.specs.declared.ends.PlaceEnd.{PlaceEnd};
-ghost use Rattle.shr_case.specs.Lists.{IsReplayOf};
+ghost use Rattle.shr_audit_case.specs.Lists.{IsReplayOf};
 ghost use Rattle.shr_audit_lists.specs.Fields.{AreItemsLeft, ArePlacesOnce, IsItemsLeft};
 
-use shr_case::case::Case;
+use shr_audit_case::case::Case;
 use shr_report::report::Report;
 
 // Whether the objects of a list are those that its journal leaves, where no place is printed twice.

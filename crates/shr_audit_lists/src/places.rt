@@ -4,16 +4,16 @@ ghost use Rattle.std.specs.Prelude.{◌≡◌, ℕ, ◌<◌, Some, length, slice
 ghost use Rattle.std.specs.Bool.{Decides};
 ghost use Rattle.shr_base.specs.declared.ends.PlaceEnd.{PlaceEnd};
 ghost use Rattle.shr_report.specs.Parts.{IsThere};
-ghost use Rattle.shr_case.specs.Each.{EachFirst};
-ghost use Rattle.shr_case.specs.Lists.{IsReplayOf};
-ghost use Rattle.shr_case.specs.Places.{AreInOrder, IsFirst};
+ghost use Rattle.shr_audit_case.specs.Each.{EachFirst};
+ghost use Rattle.shr_audit_case.specs.Lists.{IsReplayOf};
+ghost use Rattle.shr_audit_case.specs.Places.{AreInOrder, IsFirst};
 ghost use Rattle.shr_audit_lists.specs.Fields.{ArePrintedOnce, AreOutcomesSo, ArePlacesOnce, ArePlacesThere, IsOutcomeSo};
 
+use shr_audit_case::case::Case;
+use shr_audit_case::places::is_first;
 use shr_base::ends::PlaceEnd;
 use shr_base::places::Place;
 use shr_base::scripts::Script;
-use shr_case::case::Case;
-use shr_case::places::is_first;
 use shr_report::report::Report;
 
 // Whether a place is one of the tables and the tree of a script.

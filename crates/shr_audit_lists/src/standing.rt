@@ -8,15 +8,15 @@ ghost use Rattle.shr_base.specs.declared.places.Place.{Place};
 ghost use Rattle.shr_model.specs.Families.{AreChildrenMovedIn, IsAllowed, IsBornAt, MayStand, child_of, moved_in};
 ghost use Rattle.shr_model.specs.Groups.{IsTree, is_child};
 ghost use Rattle.shr_model.specs.Items.{is_closed};
-ghost use Rattle.shr_case.specs.Each.{EachFirst};
-ghost use Rattle.shr_case.specs.Places.{AreInOrder, IsFirst};
+ghost use Rattle.shr_audit_case.specs.Each.{EachFirst};
+ghost use Rattle.shr_audit_case.specs.Places.{AreInOrder, IsFirst};
 ghost use Rattle.shr_audit_lists.specs.Standing.{AreMovesTold, AreStanding, IsMovedChild, IsPlaceStanding};
 
 use crate::done::is_closing;
+use shr_audit_case::places::{is_first, journal_at};
 use shr_base::journals::Entry;
 use shr_base::memory::Memory;
 use shr_base::places::Place;
-use shr_case::places::{is_first, journal_at};
 use shr_report::report::Report;
 use std::alloc::Global;
 

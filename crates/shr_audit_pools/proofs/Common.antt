@@ -13,9 +13,9 @@ pub use Rattle.std.specs.Bool.{Decides}
 pub use Rattle.std.specs.List.{AllByRecursion, cons_option, enumerate_from}
 pub use Rattle.std.specs.List.Sorted.{IsNonDecreasingBy, IsPartitionedBy, IsStableByKey, ties}
 pub use Rattle.std.specs.Prelude.{filter, filter_map, flat_map, nat_le, nat_lt, not, option_and_then, option_map, option_to_list, replicate, ◌&&◌, ◌==◌, ◌↔◌}
-pub use Rattle.shr_audit_due.proofs.Loops.{each_plain_of, item_fails, items_whole, none_some, value_fails}
+pub use Rattle.shr_audit_pools.proofs.DueLoops.{each_plain_of, item_fails, items_whole, none_some, value_fails}
 pub use Rattle.shr_audit_tables.proofs.Steps.{sum_item}
-pub use Rattle.shr_audit_walks.proofs.Answered.{here_at}
+pub use Rattle.shr_audit_passes.proofs.Answered.{here_at}
 pub use Rattle.shr_base.specs.declared.ends.PlaceAmount.{PlaceAmount}
 pub use Rattle.shr_base.specs.declared.ends.UnitsEnd.{UnitsEnd}
 pub use Rattle.shr_base.specs.declared.ends.WorkerPart.{WorkerPart}
@@ -30,9 +30,9 @@ pub use Rattle.shr_base.specs.declared.walks.PassRecord.{PassRecord}
 pub use Rattle.shr_base.specs.declared.walks.PlainAnswer.{PlainAnswer}
 pub use Rattle.shr_base.specs.declared.walks.PlainTry.{PlainTry}
 pub use Rattle.shr_base.specs.declared.walks.PlainWalk.{PlainWalk}
-pub use Rattle.shr_formed.proofs.Eachs.{adjacent_in, all_at, all_of, at_copied, below_of, clash, each_in, fails, more_at}
-pub use Rattle.shr_formed.proofs.WellParts.{lists_of, parts_of}
-pub use Rattle.shr_formed.specs.Each.{Adjacent, EachItem}
+pub use Rattle.shr_audit_formed.proofs.Eachs.{adjacent_in, all_at, all_of, at_copied, below_of, clash, each_in, fails, more_at}
+pub use Rattle.shr_audit_formed.proofs.WellParts.{lists_of, parts_of}
+pub use Rattle.shr_audit_formed.specs.Each.{Adjacent, EachItem}
 pub use Rattle.shr_model.proofs.PlacesLaws.{is_place_itself, is_place_same}
 pub use Rattle.shr_model.specs.Places.{is_place}
 pub use Rattle.shr_model.specs.Units.{IsPlainEntry, IsPlainJournal, free_after, free_of}
@@ -42,8 +42,8 @@ pub use Rattle.shr_report.specs.Pools.{ArePoolsLawful, AreUnitsRight, HasTries, 
 pub use Rattle.shr_report.specs.UnitParts.{EachPlain, EachTry, EachUnits, home_in, pass_at, pass_in, pool_passes, units_place_at, plain_by, plain_due, plain_in, plain_job_of, plain_of, pool_place, units_cited, units_cited_at, units_entries, units_journal}
 pub use Rattle.shr_report.specs.WellFormed.{AreNotFalling, IsAmountWell, IsPlaceBefore, IsPlaceUpTo, IsPoolAmountWell, IsWellFormed, units_place}
 pub use Rattle.shr_report.specs.declared.report.Report.{Report}
-pub use Rattle.shr_sums.proofs.Gaining.{gains_as, gains_more}
-pub use Rattle.shr_sums.specs.Deferred.{GainsAtEach, IsNarrow, deferred_key}
+pub use Rattle.shr_audit_case.proofs.Gaining.{gains_as, gains_more}
+pub use Rattle.shr_audit_case.specs.Deferred.{GainsAtEach, IsNarrow, deferred_key}
 pub use Rattle.shr_audit_pools.specs.Cited.{AreEntriesRight, HasRight, IsEntryRight, IsPartRight, cite_at}
 pub use Rattle.shr_audit_pools.specs.Journals.{AreApart, AreJournalsRight}
 pub use Rattle.shr_audit_pools.specs.Lows.{AreAllRising, AreAllVersed, AreCitedBelow, AreLows, AreLowsOf, AreCitesRising, AreUpTo, HaveFewTries, IsAbove, HasNoLows, IsHigh, IsPartVersed, IsSmall, IsTryHigh, IsVersed, IsWalkHigh, Lows, NotesReplies, NotesUnitsReply, NotesTries, RaisesLow, cited_or_next, cited_at_reply, kept_as, low_at}

@@ -9,3 +9,6 @@ mod Moving
 pub mod Risen
 mod Versed
 mod Lawed
+mod DueCommon
+pub mod Dues
+pub mod DueLoops

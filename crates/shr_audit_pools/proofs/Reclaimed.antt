@@ -1,7 +1,7 @@
 -- The Reclaims of a pass, each by itself and all together.
 use Rattle.shr_audit_pools.proofs.Common.{◌≡◌, ℕ, zero, suc, ◌+◌, ◌≤◌, Bool, false, List, [], ◌∷◌, length, take, map, Some, refl, sym, ap, subst, ◌∙◌, sum_by, slice_get, Decides, AllByRecursion, sum_by-cons, PoolDecl, PassRecord, ReclaimMade, EachItem, fails, Reclaimed, IsReclaimAfter, reclaim_freed, made_of_reclaim, replicate, take-replicate, AreReclaimsOf}
 use Rattle.shr_model.specs.Pass.{FollowsArithmetic, due, due_asks, ask_size, batch_of, total_of}
-use Rattle.shr_audit_walks.proofs.Scanned.{tails}
+use Rattle.shr_audit_passes.proofs.Scanned.{tails}
 use Rattle.shr_model.proofs.PassLaws.{made_le}
 use Rattle.shr_model.proofs.Lists.{heads}
 

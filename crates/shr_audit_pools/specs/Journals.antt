@@ -5,7 +5,7 @@ use Rattle.shr_base.specs.declared.ends.UnitsEnd.{UnitsEnd}
 use Rattle.shr_base.specs.declared.journals.PlainEntry.{PlainEntry}
 use Rattle.shr_base.specs.declared.scripts.Script.{Script}
 use Rattle.shr_model.specs.Units.{IsPlainJournal, free_of}
-use Rattle.shr_formed.specs.Each.{Adjacent}
+use Rattle.shr_audit_formed.specs.Each.{Adjacent}
 use Rattle.shr_report.specs.declared.report.Report.{Report}
 use Rattle.shr_report.specs.Pools.{AreUnitsRight}
 use Rattle.shr_report.specs.UnitParts.{pool_place, units_place_at}

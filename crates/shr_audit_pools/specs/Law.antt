@@ -10,7 +10,7 @@ use Rattle.shr_report.specs.Pools.{IsPlainLawful, IsPoolReply, plain_versions}
 use Rattle.shr_report.specs.UnitParts.{EachPlain, EachUnits, plain_by, plain_due, plain_job_of, plain_of, units_cited_at}
 use Rattle.shr_report.specs.WellFormed.{AreNotFalling}
 use Rattle.shr_audit_pools.specs.Cited.{IsEntryRight}
-use Rattle.shr_audit_due.specs.Due.{IsDue}
+use Rattle.shr_audit_pools.specs.Due.{IsDue}
 use Rattle.shr_audit_pools.specs.Moved.{ArePoolWordsRight}
 
 -- the fields on replies about pools

@@ -6,3 +6,4 @@ pub mod Lows
 pub mod Passes
 pub mod Moved
 pub mod Law
+pub mod Due

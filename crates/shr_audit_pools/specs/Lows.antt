@@ -13,7 +13,7 @@ use Rattle.shr_base.specs.declared.replies.Reply.TheVariants as reply
 use Rattle.shr_base.specs.declared.scripts.Script.{Script}
 use Rattle.shr_base.specs.declared.walks.PlainTry.{PlainTry}
 use Rattle.shr_base.specs.declared.walks.PlainWalk.{PlainWalk}
-use Rattle.shr_formed.specs.Each.{EachItem}
+use Rattle.shr_audit_formed.specs.Each.{EachItem}
 use Rattle.shr_report.specs.Parts.{at}
 use Rattle.shr_report.specs.Pools.{plain_versions, version_in}
 use Rattle.shr_report.specs.UnitParts.{home_in, units_place_at, pool_place, units_cited}

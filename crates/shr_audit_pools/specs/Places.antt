@@ -4,7 +4,7 @@ use Rattle.shr_base.specs.declared.ends.UnitsEnd.{UnitsEnd}
 use Rattle.shr_base.specs.declared.places.Place.{Place}
 use Rattle.shr_model.specs.Places.{is_place}
 use Rattle.shr_model.specs.Units.{IsPlainJournal}
-use Rattle.shr_formed.specs.Each.{Adjacent, EachItem}
+use Rattle.shr_audit_formed.specs.Each.{Adjacent, EachItem}
 use Rattle.shr_report.specs.declared.report.Report.{Report}
 use Rattle.shr_report.specs.Numbers.{AreUnitsNumbered}
 use Rattle.shr_report.specs.UnitParts.{units_place_at}

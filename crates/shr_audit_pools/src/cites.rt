@@ -8,10 +8,10 @@ ghost use Rattle.shr_audit_pools.specs.Cited.{cite_at};
 ghost use Rattle.shr_audit_pools.specs.Places.{AreKept, named_place};
 
 use crate::places::{PoolPlace, entries_at};
+use shr_audit_case::serials::answer_at;
 use shr_base::journals::PlainEntry;
 use shr_base::places::Serial;
 use shr_base::replies::Reply;
-use shr_case::serials::answer_at;
 use shr_report::report::Report;
 
 /// An entry of the journal of a pool on a node, by its number. Our own.

@@ -4,7 +4,7 @@
 ghost use Rattle.std.specs.Prelude.{◌≡◌, ℕ, ◌<◌, ⊤, Some, option_copied, length, slice_get};
 ghost use Rattle.std.specs.Bool.{Decides};
 ghost use Rattle.std.specs.Option.{IsSomeAnd, IsSome};
-ghost use Rattle.shr_formed.specs.Each.{EachItem};
+ghost use Rattle.shr_audit_formed.specs.Each.{EachItem};
 ghost use Rattle.shr_report.specs.UnitParts.{EachUnits, pass_at, plain_at};
 ghost use Rattle.shr_report.specs.WellFormed.{units_place};
 ghost use Rattle.shr_audit_pools.specs.Cited.{AreEntriesRight, IsEntryRight};

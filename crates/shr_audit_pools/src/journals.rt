@@ -3,7 +3,7 @@
 ghost use Rattle.std.specs.Prelude.{◌≡◌, ◌≢◌, ◌≤◌, List, IfSome, IfNone, MatchOption};
 ghost use Rattle.std.specs.Bool.{Decides};
 ghost use Rattle.shr_base.specs.declared.journals.PlainEntry.{PlainEntry};
-ghost use Rattle.shr_formed.specs.Each.{EachItem};
+ghost use Rattle.shr_audit_formed.specs.Each.{EachItem};
 ghost use Rattle.shr_model.specs.Units.{IsPlainEntry, IsPlainJournal, free_after, free_of};
 ghost use Rattle.shr_report.specs.Pools.{AreUnitsRight};
 ghost use Rattle.shr_report.specs.WellFormed.{IsWellFormed, units_place};

@@ -3,7 +3,7 @@
 ghost use Rattle.std.specs.Prelude.{◌≡◌, ℕ, length, map, sum_by};
 ghost use Rattle.std.specs.Bool.{Decides};
 ghost use Rattle.shr_base.specs.declared.places.Place.{Place};
-ghost use Rattle.shr_formed.specs.Each.{EachItem};
+ghost use Rattle.shr_audit_formed.specs.Each.{EachItem};
 ghost use Rattle.shr_model.specs.Pass.{FollowsArithmetic};
 ghost use Rattle.shr_report.specs.declared.report.Report.{Report};
 ghost use Rattle.shr_report.specs.Pools.{IsPlainEnding, IsPlainPass};
@@ -12,7 +12,7 @@ ghost use Rattle.shr_audit_pools.specs.Passes.{AreReclaimsOf, IsReclaimAfter, re
 ghost use Rattle.shr_audit_pools.specs.Stock.{made_of_reclaim};
 
 use crate::stock::Reclaimed;
-use shr_audit_walks::passes::{asks_due, follows};
+use shr_audit_passes::passes::{asks_due, follows};
 use shr_base::scripts::PoolDecl;
 use shr_base::walks::{Ending, PassRecord};
 

@@ -11,6 +11,7 @@ ghost use Rattle.shr_audit_pools.specs.Places.{AreKept};
 ghost use Rattle.shr_audit_pools.specs.Stock.{AreStocksOf};
 
 use crate::deferred::are_words_right;
+use crate::due::{are_walks_due, are_walks_of_commands};
 use crate::entries::are_all_entries_right;
 use crate::journals::are_journals_right;
 use crate::replies::are_replies_right;
@@ -18,7 +19,6 @@ use crate::rising::are_all_rising;
 use crate::stock::{Stock, stocks_of};
 use crate::versions::are_all_versed;
 use crate::walks::are_walks_lawful;
-use shr_audit_due::due::{are_walks_due, are_walks_of_commands};
 use shr_base::memory::Memory;
 use shr_base::scripts::Script;
 use shr_report::report::Report;

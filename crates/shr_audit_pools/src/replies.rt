@@ -13,9 +13,9 @@ ghost use Rattle.shr_audit_pools.specs.Places.{AreKept, named_place};
 ghost use Rattle.shr_audit_pools.specs.Stock.{AreStocksOf};
 
 use crate::cites::{Cite, entry_at};
+use crate::due::commands_of;
 use crate::places::{PoolPlace, home_of};
 use crate::stock::{Stock, is_free_after};
-use shr_audit_due::due::commands_of;
 use shr_base::ends::WorkerPart;
 use shr_base::journals::PlainEntry;
 use shr_base::replies::{Answered, Reply};

@@ -5,7 +5,7 @@ ghost use Rattle.std.specs.Prelude.{◌≡◌, ℕ, ◌<◌, ◌≤◌, ◌++◌
 ghost use Rattle.std.specs.Bool.{Decides};
 ghost use Rattle.shr_base.specs.declared.ends.UnitsEnd.{UnitsEnd};
 ghost use Rattle.shr_base.specs.declared.journals.PlainEntry.{PlainEntry};
-ghost use Rattle.shr_formed.specs.Each.{EachItem};
+ghost use Rattle.shr_audit_formed.specs.Each.{EachItem};
 ghost use Rattle.shr_model.specs.Units.{IsPlainJournal};
 ghost use Rattle.shr_report.specs.Numbers.{IsPlainEntryNumbered};
 ghost use Rattle.shr_report.specs.Pools.{reclaims_by};

@@ -3,10 +3,10 @@
 ghost use Rattle.std.specs.Prelude.{◌≡◌, ℕ, ◌<◌, ◌≤◌, Some, length, slice_get, IfOk, OnOk};
 ghost use Rattle.std.specs.Bool.{Decides};
 ghost use Rattle.shr_base.specs.declared.ends.WorkerPart.{WorkerPart};
-ghost use Rattle.shr_formed.specs.Each.{EachItem};
+ghost use Rattle.shr_audit_formed.specs.Each.{EachItem};
 ghost use Rattle.shr_report.specs.Pools.{version_in};
 ghost use Rattle.shr_report.specs.WellFormed.{IsWellFormed};
-ghost use Rattle.shr_audit_due.specs.Due.{PoolWalksByCommand};
+ghost use Rattle.shr_audit_pools.specs.Due.{PoolWalksByCommand};
 ghost use Rattle.shr_audit_pools.specs.Lows.{AreAllVersed, HaveFewTries, IsPartVersed, IsWalkHigh, NotesReplies, NotesTries};
 
 use crate::lows::{low_at, no_lows, raise};

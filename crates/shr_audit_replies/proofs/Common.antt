@@ -19,9 +19,9 @@ pub use Rattle.shr_base.specs.declared.scripts.Command.TheVariants.{On, Put}
 pub use Rattle.shr_base.specs.declared.scripts.GroupDecl.{GroupDecl}
 pub use Rattle.shr_base.specs.declared.scripts.PoolDecl.{PoolDecl}
 pub use Rattle.shr_base.specs.declared.scripts.Script.{Script}
-pub use Rattle.shr_case.specs.Each.{EachFirst}
-pub use Rattle.shr_case.specs.Places.{IsFirst}
-pub use Rattle.shr_formed.proofs.Eachs.{all_at, below_of, clash, fails, more_at}
+pub use Rattle.shr_audit_case.specs.Each.{EachFirst}
+pub use Rattle.shr_audit_case.specs.Places.{IsFirst}
+pub use Rattle.shr_audit_formed.proofs.Eachs.{all_at, below_of, clash, fails, more_at}
 pub use Rattle.shr_model.specs.Families.{Family}
 pub use Rattle.shr_model.specs.Tenants.{by_of}
 pub use Rattle.shr_report.specs.Parts.{EachAnswer, answer_at, answers_in, answers_of, at, cited_at, cited_by, command_at, commands_of, id_found, journals_of, parents_of, reply_at, serial_of}

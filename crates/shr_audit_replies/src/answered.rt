@@ -4,8 +4,8 @@ ghost use Rattle.std.specs.Prelude.{◌≡◌, ℕ, Some, slice_get};
 ghost use Rattle.std.specs.Bool.{Decides};
 ghost use Rattle.shr_base.specs.declared.replies.Answered.{Answered};
 ghost use Rattle.shr_base.specs.declared.scripts.Command.{Command};
-ghost use Rattle.shr_case.specs.Each.{AnswersInParts};
-ghost use Rattle.shr_case.specs.Places.{AreInOrder};
+ghost use Rattle.shr_audit_case.specs.Each.{AnswersInParts};
+ghost use Rattle.shr_audit_case.specs.Places.{AreInOrder};
 ghost use Rattle.shr_report.specs.Parts.{command_at, id_found, journals_of, parents_of, serial_of};
 ghost use Rattle.shr_audit_replies.specs.Answers.{AreAnswered, IsAnswered, MayReply};
 

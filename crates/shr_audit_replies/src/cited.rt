@@ -3,18 +3,18 @@
 ghost use Rattle.std.specs.Prelude.{◌≡◌, ℕ, Some, slice_get, true};
 ghost use Rattle.std.specs.Bool.{Decides};
 ghost use Rattle.shr_base.specs.declared.journals.Entry.{Entry};
-ghost use Rattle.shr_case.specs.Each.{EachFirst};
-ghost use Rattle.shr_case.specs.Places.{AreInOrder};
+ghost use Rattle.shr_audit_case.specs.Each.{EachFirst};
+ghost use Rattle.shr_audit_case.specs.Places.{AreInOrder};
 ghost use Rattle.shr_model.specs.Tenants.{by_of};
 ghost use Rattle.shr_report.specs.Parts.{at, cited_at, cited_by};
 ghost use Rattle.shr_audit_replies.specs.Cited.{AreEntriesCited, IsCited};
 
+use shr_audit_case::places::is_first;
+use shr_audit_case::serials::answer_at;
 use shr_base::ends::PlaceEnd;
 use shr_base::journals::Entry;
 use shr_base::places::{At, Place, Serial};
 use shr_base::replies::Reply;
-use shr_case::places::is_first;
-use shr_case::serials::answer_at;
 use shr_report::report::Report;
 
 /// The command of a tenant's entry. Our own.

@@ -2,7 +2,7 @@
 
 ghost use Rattle.std.specs.Prelude.{IfOk};
 ghost use Rattle.std.specs.Bool.{Decides};
-ghost use Rattle.shr_case.specs.Places.{AreInOrder};
+ghost use Rattle.shr_audit_case.specs.Places.{AreInOrder};
 ghost use Rattle.shr_audit_replies.specs.Law.{AreRepliesLawfulButValues, HasHeads};
 
 use crate::answered::are_answered;

@@ -2,17 +2,17 @@
 
 ghost use Rattle.std.specs.Prelude.{◌≡◌, ◌+◌, IfOk, length, true};
 ghost use Rattle.std.specs.Bool.{Decides};
-ghost use Rattle.shr_case.specs.Each.{EachFirst};
-ghost use Rattle.shr_case.specs.Places.{AreInOrder};
+ghost use Rattle.shr_audit_case.specs.Each.{EachFirst};
+ghost use Rattle.shr_audit_case.specs.Places.{AreInOrder};
 ghost use Rattle.shr_audit_replies.specs.Cited.{AreJournalsRising, AreCommandsRising};
 ghost use Rattle.shr_audit_replies.specs.Rising.{AreOfEarlierJournals, EntryGoesOn, IsAfter};
 
 use crate::cited::by_of;
+use shr_audit_case::places::is_first;
 use shr_base::ends::PlaceEnd;
 use shr_base::journals::Entry;
 use shr_base::memory::Memory;
 use shr_base::places::Serial;
-use shr_case::places::is_first;
 use shr_report::report::Report;
 use std::alloc::Global;
 

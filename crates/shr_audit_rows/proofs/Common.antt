@@ -20,9 +20,9 @@ pub use Rattle.shr_base.specs.declared.replies.Reply.{Reply}
 pub use Rattle.shr_base.specs.declared.scripts.Command.{Command}
 pub use Rattle.shr_base.specs.declared.scripts.GroupDecl.{GroupDecl}
 pub use Rattle.shr_base.specs.declared.scripts.Script.{Script}
-pub use Rattle.shr_case.proofs.Eachs.{decides_iff}
-pub use Rattle.shr_formed.proofs.Eachs.{all_of, clash, each_all, each_in, each_more, fails}
-pub use Rattle.shr_formed.specs.Each.{EachItem}
+pub use Rattle.shr_audit_case.proofs.Eachs.{decides_iff}
+pub use Rattle.shr_audit_formed.proofs.Eachs.{all_of, clash, each_all, each_in, each_more, fails}
+pub use Rattle.shr_audit_formed.specs.Each.{EachItem}
 pub use Rattle.shr_model.specs.Charges.{is_by, ops_by, ups}
 pub use Rattle.shr_model.specs.Commands.{decl_named}
 pub use Rattle.shr_model.specs.Pool.{decl_after, id_of, is_live_below, is_live_decl, lowest_idle}

@@ -5,7 +5,7 @@ use Rattle.shr_base.specs.declared.replies.Reply.{Reply}
 use Rattle.shr_base.specs.declared.replies.Reply.TheVariants as reply
 use Rattle.shr_base.specs.declared.scripts.Command.{Command}
 use Rattle.shr_base.specs.declared.scripts.Script.{Script}
-use Rattle.shr_formed.specs.Each.{EachItem}
+use Rattle.shr_audit_formed.specs.Each.{EachItem}
 use Rattle.shr_model.specs.Commands.{decl_named}
 use Rattle.shr_report.specs.declared.report.Report.{Report}
 use Rattle.shr_report.specs.Causes.{IsCached, IsFull, IsUncached}

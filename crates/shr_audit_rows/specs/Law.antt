@@ -3,10 +3,10 @@ use Rattle.shr_base.specs.declared.scripts.Script.{Script}
 use Rattle.shr_report.specs.declared.report.Report.{Report}
 use Rattle.shr_report.specs.Freshness.{IsFresh}
 use Rattle.shr_report.specs.Parts.{EachAttempt, EachEntry, EachWalk}
-use Rattle.shr_audit_causes.specs.Registrations.{AreRegistrationsCaused}
-use Rattle.shr_audit_causes.specs.Trees.{AreBeginsCaused, AreDonesCaused, AreMadesCaused}
-use Rattle.shr_audit_causes.specs.Walks.{CitesBegin, IsDrainedRightly, IsWornRightly}
-use Rattle.shr_audit_spent.specs.Passes.{ArePassesCaused, AreTriesCaused}
+use Rattle.shr_audit_reasons.specs.Registrations.{AreRegistrationsCaused}
+use Rattle.shr_audit_reasons.specs.Trees.{AreBeginsCaused, AreDonesCaused, AreMadesCaused}
+use Rattle.shr_audit_reasons.specs.Walks.{CitesBegin, IsDrainedRightly, IsWornRightly}
+use Rattle.shr_audit_reasons.specs.Passes.{ArePassesCaused, AreTriesCaused}
 
 -- walks, worn attempts and worn passes have what they came from
 pub record AreWalksCaused (s : Script) (r : Report) : Type 0 where

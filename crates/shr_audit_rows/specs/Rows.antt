@@ -14,7 +14,7 @@ use Rattle.shr_report.specs.declared.report.Report.{Report}
 use Rattle.shr_report.specs.Causes.{IsInTheWay, IsOver, IsUnmade, StandsInTree}
 use Rattle.shr_report.specs.Parts.{answer_at, command_at, serial_of}
 use Rattle.shr_report.specs.ReplyTable.{HasCause, IsUsedUp, group_met}
-use Rattle.shr_audit_spent.specs.Counted.{IsCountOf}
+use Rattle.shr_audit_reasons.specs.Counted.{IsCountOf}
 use Rattle.shr_audit_rows.specs.declared.rows.Notes.{Notes}
 use Rattle.shr_audit_rows.specs.Moments.{AreMoments}
 use Rattle.shr_audit_rows.specs.Registered.{EntryRegisters}

@@ -9,10 +9,10 @@ ghost use Rattle.shr_report.specs.Parts.{script_hierarchy};
 ghost use Rattle.shr_audit_rows.specs.Moments.{AreMoments, done_in, group_made_in, moment_noted};
 
 use crate::groups::is_later;
+use shr_audit_case::serials::parents_of;
 use shr_base::journals::TreeEntry;
 use shr_base::memory::Memory;
 use shr_base::scripts::Script;
-use shr_case::serials::parents_of;
 use shr_report::report::Report;
 use std::alloc::Global;
 

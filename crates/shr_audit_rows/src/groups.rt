@@ -8,7 +8,7 @@ ghost use Rattle.shr_model.specs.Groups.{is_later};
 ghost use Rattle.shr_report.specs.Causes.{IsUnmade, StandsInTree};
 ghost use Rattle.shr_report.specs.Parts.{later_of};
 
-use shr_audit_causes::tree::{is_begin_of, is_done_of, is_made_of};
+use shr_audit_reasons::tree::{is_begin_of, is_done_of, is_made_of};
 use shr_base::scripts::Script;
 use shr_report::report::Report;
 

@@ -3,7 +3,7 @@
 ghost use Rattle.std.specs.Prelude.{◌≡◌, ◌≤◌, ◌&&◌, not, true, length, take, IsPermutation, IfOk};
 ghost use Rattle.std.specs.Bool.{Decides};
 ghost use Rattle.std.specs.List.Sorted.{IsNonDecreasingBy};
-ghost use Rattle.shr_formed.specs.Each.{EachItem};
+ghost use Rattle.shr_audit_formed.specs.Each.{EachItem};
 ghost use Rattle.shr_audit_rows.specs.declared.asked.Asked.{Asked};
 ghost use Rattle.shr_audit_rows.specs.Asked.{IsAskedSo, IsSaid, IsAskedRight};
 ghost use Rattle.shr_audit_rows.specs.Pooled.{Stands};

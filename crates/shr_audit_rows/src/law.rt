@@ -2,19 +2,19 @@
 
 ghost use Rattle.std.specs.Prelude.{IfOk};
 ghost use Rattle.std.specs.Bool.{Decides};
-ghost use Rattle.shr_audit_spent.specs.Counted.{IsCountOf};
-ghost use Rattle.shr_case.specs.Places.{AreInOrder};
+ghost use Rattle.shr_audit_reasons.specs.Counted.{IsCountOf};
+ghost use Rattle.shr_audit_case.specs.Places.{AreInOrder};
 ghost use Rattle.shr_audit_rows.specs.Law.{AreCausesLawfulButReplies, AreEntriesCaused, AreWalksCaused};
 
-use shr_audit_causes::attempts::are_attempts_caused;
-use shr_audit_causes::drains::are_drains_caused;
-use shr_audit_causes::registrations::are_registrations_caused;
-use shr_audit_causes::trees::{are_begins_caused, are_dones_caused, are_mades_caused};
-use shr_audit_causes::walks::walks_begin;
 use shr_audit_fresh::law::is_fresh;
-use shr_audit_spent::counted::Counted;
-use shr_audit_spent::passes::are_passes_caused;
-use shr_audit_spent::plain::are_tries_caused;
+use shr_audit_reasons::attempts::are_attempts_caused;
+use shr_audit_reasons::counted::Counted;
+use shr_audit_reasons::drains::are_drains_caused;
+use shr_audit_reasons::passes::are_passes_caused;
+use shr_audit_reasons::plain::are_tries_caused;
+use shr_audit_reasons::registrations::are_registrations_caused;
+use shr_audit_reasons::trees::{are_begins_caused, are_dones_caused, are_mades_caused};
+use shr_audit_reasons::walks::walks_begin;
 use shr_base::memory::Memory;
 use shr_base::scripts::Script;
 use shr_report::report::Report;

@@ -3,7 +3,7 @@
 ghost use Rattle.std.specs.Prelude.{ℕ, ◌<◌, length, IfOk};
 ghost use Rattle.std.specs.Bool.{Decides};
 ghost use Rattle.std.specs.Option.{IsSomeAnd};
-ghost use Rattle.shr_case.specs.Places.{AreInOrder};
+ghost use Rattle.shr_audit_case.specs.Places.{AreInOrder};
 ghost use Rattle.shr_report.specs.Causes.{IsInTheWay};
 ghost use Rattle.shr_report.specs.Parts.{EachAnswer};
 ghost use Rattle.shr_audit_rows.specs.Rows.{AreFew, AreRowNotes, HasCauseButEnds, HasCountCause, HasStateCause, IsCausedAt, IsOverSo};
@@ -15,8 +15,8 @@ use crate::named::{decl_named, group_met, group_named};
 use crate::registered::is_registered;
 use crate::tried::{Refused, Tries, is_over, tries_of};
 use crate::worn::is_used_up;
+use shr_audit_reasons::counted::Counted;
 use shr_audit_replies::numbers::{answer_of, command_of, count_answers};
-use shr_audit_spent::counted::Counted;
 use shr_base::memory::Memory;
 use shr_base::places::Serial;
 use shr_base::replies::Reply;

@@ -2,13 +2,13 @@
 
 ghost use Rattle.std.specs.Prelude.{◌<◌, length};
 ghost use Rattle.std.specs.Bool.{Decides};
-ghost use Rattle.shr_audit_spent.specs.Counted.{IsCountOf};
-ghost use Rattle.shr_case.specs.Places.{AreInOrder};
+ghost use Rattle.shr_audit_reasons.specs.Counted.{IsCountOf};
+ghost use Rattle.shr_audit_case.specs.Places.{AreInOrder};
 ghost use Rattle.shr_report.specs.ReplyTable.{IsUsedUp};
 
-use shr_audit_spent::counted::Counted;
-use shr_audit_spent::pools::is_pool_spent;
-use shr_audit_spent::spent::is_spent;
+use shr_audit_reasons::counted::Counted;
+use shr_audit_reasons::pools::is_pool_spent;
+use shr_audit_reasons::spent::is_spent;
 use shr_base::places::Serial;
 use shr_base::replies::Spent;
 use shr_base::scripts::{Command, Script};

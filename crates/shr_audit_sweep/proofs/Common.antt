@@ -8,8 +8,8 @@ pub use Rattle.shr_base.specs.declared.ends.WorkerPart.{WorkerPart}
 pub use Rattle.shr_base.specs.declared.scripts.Script.{Script}
 pub use Rattle.shr_base.specs.declared.scripts.Sweep.{Sweep}
 pub use Rattle.shr_base.specs.Walks.{WalkRecord}
-pub use Rattle.shr_formed.proofs.Eachs.{all_of, clash, each_in}
-pub use Rattle.shr_formed.specs.Each.{Adjacent, EachItem, IsWorkerCommand}
+pub use Rattle.shr_audit_formed.proofs.Eachs.{all_of, clash, each_in}
+pub use Rattle.shr_audit_formed.specs.Each.{Adjacent, EachItem, IsWorkerCommand}
 pub use Rattle.shr_report.specs.Parts.{answer_at, commands_of, parents_of, reply_at, serial_of, walks_in}
 pub use Rattle.shr_report.specs.Swept.{IsSweepRight, IsSweepWalk, IsSwept, IsSweptOut, all_sweep_walks, sweep_serial, sweep_walks}
 pub use Rattle.shr_report.specs.declared.report.Report.{Report}

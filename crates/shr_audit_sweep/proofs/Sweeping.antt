@@ -3,9 +3,9 @@ use Rattle.shr_audit_sweep.proofs.Common.{◌≡◌, ℕ, ◌<◌, ◌≤◌, Bo
 use Rattle.shr_base.specs.declared.replies.Answered.{Answered}
 use Rattle.shr_model.specs.Commands.{is_serial}
 use Rattle.shr_report.specs.WellFormed.{IsWellFormed}
-use Rattle.shr_formed.proofs.WellParts.{parts_of}
+use Rattle.shr_audit_formed.proofs.WellParts.{parts_of}
 use Rattle.shr_audit_sweep.specs.Swept.{IsSweepTold}
-use Rattle.shr_audit_walks.proofs.Answered.{here_at, same_test}
+use Rattle.shr_audit_passes.proofs.Answered.{here_at, same_test}
 
 own_walks : (worker n answers : ℕ) (walks : List WalkRecord) → EachItem (λ x. IsWorkerCommand worker answers x.by) walks → filter (λ (w : WalkRecord). is_serial (serial_of worker n) w.by) walks ≡ filter (λ (w : WalkRecord). w.by.command == n) walks
 own_walks worker n answers [] h = refl

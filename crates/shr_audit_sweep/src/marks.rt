@@ -3,7 +3,7 @@
 ghost use Rattle.std.specs.Prelude.{◌≡◌, ℕ, ◌+◌, ◌<◌, ◌*◌, ◌≤◌, ◌++◌, List, [], true, false, get_or, length, slice_set, IfOk, IsTrue};
 ghost use Rattle.std.specs.Bool.{Decides};
 ghost use Rattle.shr_base.specs.Walks.{WalkRecord};
-ghost use Rattle.shr_formed.specs.Each.{EachItem};
+ghost use Rattle.shr_audit_formed.specs.Each.{EachItem};
 ghost use Rattle.shr_report.specs.Parts.{parents_of};
 ghost use Rattle.shr_report.specs.Swept.{all_sweep_walks, sweep_walks};
 ghost use Rattle.shr_report.specs.WellFormed.{IsWellFormed};

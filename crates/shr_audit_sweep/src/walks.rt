@@ -3,13 +3,13 @@
 ghost use Rattle.std.specs.Prelude.{◌≡◌, ◌≤◌, length, sum_by};
 ghost use Rattle.std.specs.Bool.{Decides};
 ghost use Rattle.shr_base.specs.Walks.{WalkRecord};
-ghost use Rattle.shr_formed.specs.Each.{EachItem};
+ghost use Rattle.shr_audit_formed.specs.Each.{EachItem};
 ghost use Rattle.shr_model.specs.Walks.{freed_told};
 ghost use Rattle.shr_report.specs.Parts.{commands_of};
 ghost use Rattle.shr_report.specs.Swept.{IsSweepWalk, sweep_walks};
 ghost use Rattle.shr_report.specs.WellFormed.{IsWellFormed};
 
-use shr_audit_walks::commands::walks_of;
+use shr_audit_passes::commands::walks_of;
 use shr_base::scripts::{Script, Sweep};
 use shr_base::walks::{WalkAnswer, WalkRecord};
 use shr_report::report::Report;

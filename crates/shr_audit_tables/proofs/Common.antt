@@ -19,8 +19,8 @@ pub use Rattle.shr_base.specs.declared.replies.Answered.{Answered}
 pub use Rattle.shr_base.specs.declared.scripts.Script.{Script}
 pub use Rattle.shr_base.specs.Walks.{Attempt, WalkRecord}
 pub use Rattle.shr_base.specs.declared.walks.Carry.{Carry}
-pub use Rattle.shr_formed.proofs.Eachs.{all_of, below_of, each_all, each_in, each_more, more_at, unmapped}
-pub use Rattle.shr_formed.specs.Each.{EachItem}
+pub use Rattle.shr_audit_formed.proofs.Eachs.{all_of, below_of, each_all, each_in, each_more, more_at, unmapped}
+pub use Rattle.shr_audit_formed.specs.Each.{EachItem}
 pub use Rattle.shr_model.proofs.Lists.{added_to, all_front, all_right, flat_all, flat_one, map_end, some_at}
 pub use Rattle.shr_model.specs.Attempts.{number_of, pass_of}
 pub use Rattle.shr_model.specs.Deferred.{amount_at, deferred_word, sum_at}
@@ -31,10 +31,10 @@ pub use Rattle.shr_report.specs.Numbers.{HasNumbers, IsAmountNumbered, IsAnswere
 pub use Rattle.shr_report.specs.Parts.{carries_in, decls_on, journal_of, journals_of, lookups_at, parents_of}
 pub use Rattle.shr_report.specs.WellFormed.{IsAmountWell, IsBefore, IsCarryBefore, IsNumbered, IsPlaceBefore, IsWellFormed}
 pub use Rattle.shr_report.specs.declared.report.Report.{Report}
-pub use Rattle.shr_sums.proofs.Gaining.{gains_more}
-pub use Rattle.shr_sums.specs.Deferred.{GainsAtEach, IsNarrow, carried_from, carried_to, deferred_key}
-pub use Rattle.shr_sums.specs.Moves.{IsSettled, sum_down_at, sum_up_at}
-pub use Rattle.shr_sums.specs.declared.moves.Move.{Move}
+pub use Rattle.shr_audit_case.proofs.Gaining.{gains_more}
+pub use Rattle.shr_audit_case.specs.Deferred.{GainsAtEach, IsNarrow, carried_from, carried_to, deferred_key}
+pub use Rattle.shr_audit_case.specs.Moves.{IsSettled, sum_down_at, sum_up_at}
+pub use Rattle.shr_audit_case.specs.declared.moves.Move.{Move}
 pub use Rattle.shr_audit_tables.specs.Deferred.{AreWordsRight, given_by_worker, taken_by}
 pub use Rattle.shr_audit_tables.specs.Draws.{AreDrawnOnce, IsDrawn, answer_draws, attempt_draws, draw_key, drawn_move, found_draws, part_draws, tried_draws, walk_draws, wanted_move, wanted_from}
 pub use Rattle.shr_audit_tables.specs.Idle.{AreIdleEmpty, IsEmptyAt, IsEmptyIfIdle, IsIdleIn, NonePast}

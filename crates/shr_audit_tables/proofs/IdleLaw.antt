@@ -2,11 +2,11 @@
 use Rattle.shr_audit_tables.proofs.Common.{◌≡◌, ℕ, suc, ◌%◌, ◌<◌, ◌≤◌, ◌⊎◌, inl, inr, Bool, false, List, [], ◌∷◌, length, get_or, map, Some, None, refl, sym, ap, subst, ◌∙◌, arith, ne_eqb, ◌==◌, slice_get, Decides, cases_lt, Decides-like, slice_get-get_or, Place, PoolEntry, PlaceEnd, phase_of, Report, EachItem, IdState, AreStates, AreIdleEmpty, IsEmptyIfIdle, IsIdleIn, NonePast, journal_of, journals_of, IsEmptyAt}
 use Rattle.shr_base.specs.declared.objects.Object.{Object}
 use Rattle.shr_model.specs.Families.{lists_moved_at}
-use Rattle.shr_replay.specs.declared.tags.Tag.{Tag}
-use Rattle.shr_replay.specs.Tags.{tag_of}
-use Rattle.shr_case.specs.Places.{end_printed}
-use Rattle.shr_case.proofs.Firsts.{IsFound, found_or_none}
-use Rattle.shr_case.proofs.Telling.{no_items}
+use Rattle.shr_audit_case.specs.declared.tags.Tag.{Tag}
+use Rattle.shr_audit_case.specs.Tags.{tag_of}
+use Rattle.shr_audit_case.specs.Places.{end_printed}
+use Rattle.shr_audit_case.proofs.Firsts.{IsFound, found_or_none}
+use Rattle.shr_audit_case.proofs.Telling.{no_items}
 
 pub none_decided : (items : List Object) (left : List Tag) (b : Bool) → left ≡ map tag_of items → b ≡ (length left == 0) → Decides b (items ≡ [])
 none_decided [] left b same is = (λ t. refl, λ e. is ∙ ap (λ (l : List Tag). length l == 0) same)

@@ -10,3 +10,6 @@ mod Rows
 mod DrawsLaw
 mod DrawnParts
 mod IdleLaw
+mod LookupsCommon
+mod LookupsDeciding
+mod LookupsWhole

@@ -4,7 +4,7 @@ use Rattle.shr_base.specs.declared.walks.PassRecord.{PassRecord}
 use Rattle.shr_model.specs.Groups.{parent_of}
 use Rattle.shr_model.specs.Moves.{is_below, given_at, taken_at}
 use Rattle.shr_model.specs.Walks.{place_in, passes_at}
-use Rattle.shr_sums.proofs.WordsLaw.{words_law}
+use Rattle.shr_audit_case.proofs.WordsLaw.{words_law}
 use Rattle.shr_audit_tables.proofs.Amounts.{IsWide, narrow_or_wide, outside, sum_none, found_sum, small_sum}
 
 -- ---- workers put together

@@ -9,7 +9,7 @@ use Rattle.shr_model.specs.Attempts.{number_of}
 use Rattle.shr_report.specs.declared.report.Report.{Report}
 use Rattle.shr_report.specs.Lookups.{found_numbers, tried_numbers}
 use Rattle.shr_report.specs.Parts.{lookups_at}
-use Rattle.shr_sums.specs.declared.moves.Move.{Move}
+use Rattle.shr_audit_case.specs.declared.moves.Move.{Move}
 
 -- a lookup of an id, by one number
 abbrev pub draw_key : ℕ → ℕ → ℕ

@@ -3,3 +3,5 @@ pub mod Draws
 pub mod Idle
 pub mod Lookups
 pub mod Registrations
+pub mod Found
+pub mod Met

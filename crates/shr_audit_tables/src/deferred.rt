@@ -8,20 +8,20 @@ ghost use Rattle.shr_report.specs.Deferred.{HasCarried, IsCarryRight, IsDeferred
 ghost use Rattle.shr_report.specs.Numbers.{HasNumbers};
 ghost use Rattle.shr_report.specs.Parts.{IsThere, parents_of};
 ghost use Rattle.shr_report.specs.WellFormed.{IsWellFormed};
-ghost use Rattle.shr_formed.specs.Each.{EachItem};
-ghost use Rattle.shr_sums.specs.Deferred.{GainsAtEach};
+ghost use Rattle.shr_audit_formed.specs.Each.{EachItem};
+ghost use Rattle.shr_audit_case.specs.Deferred.{GainsAtEach};
 ghost use Rattle.shr_audit_tables.specs.Deferred.{given_by_worker, taken_by, AreWordsRight};
 
+use shr_audit_case::deferred::{note_carries, note_walks, note_words};
+use shr_audit_case::moves::{Move, is_settled};
+use shr_audit_case::serials::{answer_at, command_at};
 use shr_base::ends::WorkerPart;
 use shr_base::memory::Memory;
 use shr_base::places::Place;
 use shr_base::replies::Reply;
 use shr_base::scripts::{Command, Script};
 use shr_base::walks::Carry;
-use shr_case::serials::{answer_at, command_at};
 use shr_report::report::Report;
-use shr_sums::deferred::{note_carries, note_walks, note_words};
-use shr_sums::moves::{Move, is_settled};
 use std::alloc::Global;
 
 // The numbers of parents have the range of their type.

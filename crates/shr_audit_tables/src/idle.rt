@@ -3,15 +3,15 @@
 ghost use Rattle.std.specs.Prelude.{length};
 ghost use Rattle.std.specs.Bool.{Decides};
 ghost use Rattle.shr_base.specs.declared.ends.PlaceEnd.{PlaceEnd};
-ghost use Rattle.shr_case.specs.Lists.{IsReplayOf};
-ghost use Rattle.shr_formed.specs.Each.{EachItem};
+ghost use Rattle.shr_audit_case.specs.Lists.{IsReplayOf};
+ghost use Rattle.shr_audit_formed.specs.Each.{EachItem};
 ghost use Rattle.shr_audit_tables.specs.Idle.{AreIdleEmpty, IsEmptyAt, IsEmptyIfIdle, IsIdleIn, NonePast};
 ghost use Rattle.shr_audit_tables.specs.Registrations.{AreStates};
 
 use crate::registrations::IdState;
+use shr_audit_case::case::Case;
 use shr_base::ends::PlaceEnd;
 use shr_base::places::Place;
-use shr_case::case::Case;
 use shr_report::report::Report;
 
 // Whether an id is idle.

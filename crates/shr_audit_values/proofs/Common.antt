@@ -8,13 +8,13 @@ pub use Rattle.shr_base.specs.declared.journals.Entry.{Entry}
 pub use Rattle.shr_base.specs.declared.journals.Entry.TheVariants.{Add, Closed, Drained, Drop, Look, MovedIn, Pin, Scan}
 pub use Rattle.shr_base.specs.declared.objects.Object.{Object}
 pub use Rattle.shr_base.specs.declared.places.Place.{Place}
-pub use Rattle.shr_case.specs.Each.{EachFirst}
-pub use Rattle.shr_case.specs.Places.{IsFirst}
-pub use Rattle.shr_formed.proofs.Eachs.{all_at, fails, more_at}
+pub use Rattle.shr_audit_case.specs.Each.{EachFirst}
+pub use Rattle.shr_audit_case.specs.Places.{IsFirst}
+pub use Rattle.shr_audit_formed.proofs.Eachs.{all_at, fails, more_at}
 pub use Rattle.shr_model.specs.Families.{lists_moved_at}
-pub use Rattle.shr_replay.specs.Journals.{values_from}
-pub use Rattle.shr_replay.specs.Values.{value_met, values_noted}
-pub use Rattle.shr_replay.specs.declared.values.FoundValue.{FoundValue}
+pub use Rattle.shr_audit_case.specs.Journals.{values_from}
+pub use Rattle.shr_audit_case.specs.Values.{value_met, values_noted}
+pub use Rattle.shr_audit_case.specs.declared.values.FoundValue.{FoundValue}
 pub use Rattle.shr_report.specs.Parts.{answer_at, at, journal_of, journals_of, parents_of}
 pub use Rattle.shr_report.specs.declared.report.Report.{Report}
 pub use Rattle.shr_audit_values.specs.Lent.{AreAhead, AreMetLent, AreValuesLentAt, IsLent, IsLentTo, IsMetLent, IsValueLent, value_first, values_behind}

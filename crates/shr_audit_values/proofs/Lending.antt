@@ -4,7 +4,7 @@ use Rattle.std.proofs.lemmas.Bool.Decides.{nat_tests}
 use Rattle.std.proofs.lemmas.List.{take_more, drop_more}
 use Rattle.shr_model.specs.Items.{items_from, moved_from, step, first_moved, later_moved}
 use Rattle.shr_model.proofs.ItemsLaws.{items_from_push, moved_from_push}
-use Rattle.shr_replay.specs.Journals.{values_from}
+use Rattle.shr_audit_case.specs.Journals.{values_from}
 use Rattle.shr_model.proofs.Booleans.{itself}
 
 -- ---- the first of the values that are left

@@ -3,3 +3,7 @@ mod Lending
 mod Replying
 mod Places
 mod LentValues
+mod OnceCommon
+mod OnceOrder
+mod OnceLaws
+mod OnceValues

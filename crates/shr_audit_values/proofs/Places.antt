@@ -2,8 +2,8 @@
 use Rattle.shr_audit_values.proofs.Common.{◌≡◌, ℕ, Bool, List, [], take, Some, refl, sym, ap, subst, arith, slice_get, Decides, Place, Entry, Add, Look, lists_moved_at, value_met, Report, journals_of, EachFirst, IsFirst, AreMetLent, AreValuesLentAt, IsLent, inl, inr, slice_get_within, Drop, Pin, Scan, MovedIn, Closed, Drained, journal_of, parents_of, IsValueLent}
 use Rattle.shr_base.specs.declared.scripts.Script.{Script}
 use Rattle.shr_model.specs.Items.{items_from}
-use Rattle.shr_case.proofs.Eachs.{decides_iff}
-use Rattle.shr_case.proofs.Firsts.{found_or_none}
+use Rattle.shr_audit_case.proofs.Eachs.{decides_iff}
+use Rattle.shr_audit_case.proofs.Firsts.{found_or_none}
 use Rattle.shr_audit_replies.specs.Answers.{AreValuesLent}
 
 -- ---- one entry

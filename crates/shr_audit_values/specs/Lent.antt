@@ -7,9 +7,9 @@ use Rattle.shr_base.specs.declared.journals.Entry.{Entry}
 use Rattle.shr_base.specs.declared.journals.Entry.TheVariants.{Look}
 use Rattle.shr_base.specs.declared.replies.Reply.TheVariants as reply
 use Rattle.shr_model.specs.Items.{items_from, moved_from}
-use Rattle.shr_replay.specs.declared.values.FoundValue.{FoundValue}
-use Rattle.shr_replay.specs.Journals.{values_from}
-use Rattle.shr_replay.specs.Values.{value_met}
+use Rattle.shr_audit_case.specs.declared.values.FoundValue.{FoundValue}
+use Rattle.shr_audit_case.specs.Journals.{values_from}
+use Rattle.shr_audit_case.specs.Values.{value_met}
 use Rattle.shr_report.specs.declared.report.Report.{Report}
 use Rattle.shr_report.specs.Parts.{at, journals_of, reply_at}
 use Rattle.shr_report.specs.ReplyTable.{LendsValue}

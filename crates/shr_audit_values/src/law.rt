@@ -2,14 +2,14 @@
 
 ghost use Rattle.std.specs.Prelude.{IfOk};
 ghost use Rattle.std.specs.Bool.{Decides};
-ghost use Rattle.shr_case.specs.Lists.{IsCaseOf};
+ghost use Rattle.shr_audit_case.specs.Lists.{IsCaseOf};
 ghost use Rattle.shr_report.specs.Replies.{AreRepliesLawful};
 
 use crate::lent::are_values_lent;
+use shr_audit_case::case::Case;
 use shr_audit_replies::law::are_replies_lawful_but_values;
 use shr_base::memory::Memory;
 use shr_base::scripts::Script;
-use shr_case::case::Case;
 use shr_report::report::Report;
 use std::alloc::Global;
 

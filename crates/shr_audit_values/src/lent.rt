@@ -4,25 +4,25 @@ ghost use Rattle.std.specs.Prelude.{◌≡◌, ℕ, true, List, [], Some};
 ghost use Rattle.std.specs.Bool.{Decides};
 ghost use Rattle.shr_base.specs.declared.objects.Object.{Object};
 ghost use Rattle.shr_base.specs.declared.replies.Reply.TheVariants.{Hit};
-ghost use Rattle.shr_replay.specs.Journals.{values_from};
+ghost use Rattle.shr_audit_case.specs.Journals.{values_from};
 ghost use Rattle.shr_report.specs.Parts.{at};
-ghost use Rattle.shr_case.specs.Each.{EachFirst};
-ghost use Rattle.shr_case.specs.Lists.{IsCaseOf, IsReplayOf};
-ghost use Rattle.shr_case.specs.Places.{AreInOrder};
+ghost use Rattle.shr_audit_case.specs.Each.{EachFirst};
+ghost use Rattle.shr_audit_case.specs.Lists.{IsCaseOf, IsReplayOf};
+ghost use Rattle.shr_audit_case.specs.Places.{AreInOrder};
 ghost use Rattle.shr_audit_replies.specs.Answers.{AreValuesLent};
 ghost use Rattle.shr_audit_values.specs.Lent.{AreMetLent, AreValuesLentAt, IsLent, IsLentTo};
 ghost use Rattle.shr_audit_values.specs.Lent.{value_first, values_behind};
 
+use shr_audit_case::case::Case;
+use shr_audit_case::places::{is_first, journal_at};
+use shr_audit_case::serials::answer_at;
+use shr_audit_case::values::FoundValue;
 use shr_base::ends::PlaceEnd;
 use shr_base::journals::Entry;
 use shr_base::places::{At, Place, Serial};
 use shr_base::replies::Reply;
 use shr_base::scripts::Script;
 use shr_base::text::Text;
-use shr_case::case::Case;
-use shr_case::places::{is_first, journal_at};
-use shr_case::serials::answer_at;
-use shr_replay::values::FoundValue;
 use shr_report::report::Report;
 
 // Whether the first of these is what the entry with this number found, and is this value.

@@ -1,11 +1,31 @@
-mod Common
-mod Rising
-mod Tried
-mod Arithmetic
-pub mod Parts
-pub mod Scanned
-pub mod Ranged
-mod Counted
-pub mod ShapedLaw
-mod WalksValues
-pub mod Answered
+mod Whole
+mod ScansCommon
+mod Keyed
+mod Noted
+mod Ordered
+mod Added
+mod Passed
+mod OthersLaw
+mod LawfulLaw
+mod Found
+mod ScansValues
+mod RoundsCommon
+mod Alike
+mod Begun
+mod Climbing
+mod Commanding
+mod Due
+mod Fitting
+mod Making
+mod Ordering
+mod Refusing
+mod VersionsCommon
+mod VersionsNoting
+mod VersionsParts
+mod LaterCommon
+pub mod Citing
+mod Clearing
+mod Filling
+mod Standing
+mod LaterLaw
+mod FilledLaw

@@ -10,7 +10,7 @@ pub use Rattle.shr_core.specs.declared.view.View.{View}
 pub use Rattle.shr_model.specs.Objects.{fresh}
 pub use Rattle.shr_node.specs.Answers.{AddGives, DropGives, LookGives, PinGives, TenantGives}
 pub use Rattle.shr_node.specs.declared.answers.NodeAnswer.{NodeAnswer}
-pub use Rattle.shr_opening.specs.Opening.{Calls, AreHolding, LoadsWord, MayCharge, OnCache, Opens, Uncharges}
+pub use Rattle.shr_cache.specs.Opening.{Calls, AreHolding, LoadsWord, MayCharge, OnCache, Opens, Uncharges}
 pub use Rattle.shr_walk.proofs.Acted.{same_for, same_then}
 pub use Rattle.shr_walk.specs.Acting.{Acting, IsFit, IsSame, IsStill}
 pub use Rattle.shr_walk.specs.State.{WorkerState, state_of}

@@ -17,7 +17,7 @@ use Rattle.shr_charge.specs.Seat.{ChargeSeated}
 use Rattle.shr_charge.specs.Charging as charging
 use Rattle.shr_charge.specs.Charging.{AreDowns}
 use Rattle.shr_deferred.specs.Seat.{moves_of}
-use Rattle.shr_opening.specs.Opening.{IsTargetOf}
+use Rattle.shr_cache.specs.Opening.{IsTargetOf}
 use Rattle.shr_walk.specs.declared.seats.Seats.{Seats}
 use Rattle.shr_walk.specs.Sharing.{IsShared}
 use Rattle.shr_walk.proofs.Shares.{same_parents}

@@ -10,7 +10,7 @@ use Rattle.shr_core.specs.Seats.{shape_of}
 use Rattle.shr_node.specs.Answers.{DropGives}
 use Rattle.shr_walk.specs.declared.seats.Shared.{Shared}
 use Rattle.shr_walk.specs.State.{WorkerState}
-use Rattle.shr_opening.specs.Opening.{MayCharge, IsWorkerSpent}
+use Rattle.shr_cache.specs.Opening.{MayCharge, IsWorkerSpent}
 use Rattle.shr_cache.specs.Replies.{AsksList, UnchargesIf, drop_says, has_dropped}
 
 -- the object of the key was asked for in the cache that was found

@@ -4,3 +4,4 @@ pub mod Gets
 pub mod Pins
 pub mod Dels
 pub mod Puts
+pub mod Opening

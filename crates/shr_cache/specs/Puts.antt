@@ -17,7 +17,7 @@ use Rattle.shr_reclaim.specs.declared.answers.Admission.TheVariants as admission
 use Rattle.shr_reclaim.specs.Admitting.{AdmissionGives}
 use Rattle.shr_walk.specs.declared.seats.Shared.{Shared}
 use Rattle.shr_walk.specs.State.{WorkerState}
-use Rattle.shr_opening.specs.Opening.{LoadsWord, HoldsCache, MissesAs, Calls, Uncharges, MayCharge, IsWorkerSpent}
+use Rattle.shr_cache.specs.Opening.{LoadsWord, HoldsCache, MissesAs, Calls, Uncharges, MayCharge, IsWorkerSpent}
 use Rattle.shr_cache.specs.Replies.{ListReplies, add_says}
 
 -- the group was online, and then its charge was asked for with this answer, with rounds of reclaim

@@ -12,7 +12,7 @@ use Rattle.shr_node.specs.declared.answers.NodeAnswer.{NodeAnswer}
 use Rattle.shr_node.specs.declared.answers.NodeAnswer.TheVariants as answer
 use Rattle.shr_walk.specs.declared.seats.Shared.{Shared}
 use Rattle.shr_walk.specs.State.{WorkerState}
-use Rattle.shr_opening.specs.Opening.{OnCache, RefusedAs, Uncharges}
+use Rattle.shr_cache.specs.Opening.{OnCache, RefusedAs, Uncharges}
 
 -- an answer of a list, by what is said of what it told
 abbrev pub answer_reply : {A : Type 0} → (At → A → Reply) → NodeAnswer A → Reply

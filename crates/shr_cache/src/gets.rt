@@ -3,17 +3,17 @@
 ghost use Rattle.std.specs.Prelude.{◌≡◌};
 ghost use Rattle.shr_core.specs.Seats.{shape_of};
 ghost use Rattle.shr_walk.specs.Acting.{IsSame};
-ghost use Rattle.shr_opening.specs.Opening.{IsTargetOf};
+ghost use Rattle.shr_cache.specs.Opening.{IsTargetOf};
 ghost use Rattle.shr_cache.specs.Gets.{GetGives};
 ghost use Rattle.shr_cache.specs.Replies.{answer_reply, look_says};
 
+use crate::opening::{Opened, open};
+use crate::replies::unfound;
 use shr_base::places::Target;
 use shr_base::replies::{Answered, Reply};
 use shr_base::text::Text;
 use shr_node::answers::NodeAnswer;
 use shr_node::tenants::{TenantCall, look};
-use shr_opening::opening::{Opened, open};
-use shr_opening::replies::unfound;
 use shr_walk::worker::Worker;
 use std::sync::Wait;
 

@@ -16,7 +16,7 @@ use Rattle.shr_registry.specs.declared.answers.FindAnswer.{FindAnswer}
 use Rattle.shr_registry.specs.declared.answers.FindAnswer.TheVariants as find
 use Rattle.shr_charge.specs.declared.answers.GroupState.{GroupState}
 use Rattle.shr_charge.specs.declared.answers.GroupState.TheVariants.{Online, Offline, NotMade}
-use Rattle.shr_opening.specs.Opening.{LoadsWord, LooksForCache, RefusedAs}
+use Rattle.shr_cache.specs.Opening.{LoadsWord, LooksForCache, RefusedAs}
 use Rattle.shr_base.specs.declared.replies.IsolateEnd.{IsolateEnd}
 use Rattle.shr_base.specs.declared.replies.IsolateEnd.TheVariants as ending
 use Rattle.shr_drop.specs.Lawful.{AreScanned, IsolatesByLaw, IsAnsweredByLaw, Placed, placed, placed_scan}

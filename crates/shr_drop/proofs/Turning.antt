@@ -10,7 +10,7 @@ use Rattle.shr_core.specs.Seats.{Seated}
 use Rattle.shr_core.proofs.Owing.{still_none}
 use Rattle.shr_charge.specs.Seat.{uses_of, tree_of}
 use Rattle.shr_deferred.specs.Seat.{DeferredSeated, moves_of}
-use Rattle.shr_opening.specs.Opening.{AreHolding}
+use Rattle.shr_cache.specs.Opening.{AreHolding}
 use Rattle.shr_walk.specs.declared.seats.CacheSeat.{CacheSeat}
 use Rattle.shr_walk.specs.declared.seats.Seats.{Seats}
 use Rattle.shr_walk.specs.ListScans.{ScansList, FindsClosed, FindsUsedUp, LacksRoom, NoneUncharged}

@@ -10,7 +10,7 @@ use Rattle.shr_charge.specs.declared.answers.GroupState.TheVariants.{Online}
 use Rattle.shr_core.specs.Steps.{with_put}
 use Rattle.shr_walk.specs.State.{WorkerState}
 use Rattle.shr_walk.specs.declared.seats.Shared.{Shared}
-use Rattle.shr_opening.specs.Opening.{LoadsWord, HoldsCache, RefusedAs}
+use Rattle.shr_cache.specs.Opening.{LoadsWord, HoldsCache, RefusedAs}
 use Rattle.shr_base.specs.declared.replies.Answered.{Answered}
 use Rattle.shr_base.specs.declared.walks.Isolation.{Isolation}
 use Rattle.shr_base.specs.declared.replies.IsolateEnd.{IsolateEnd}

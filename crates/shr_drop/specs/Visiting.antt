@@ -19,7 +19,7 @@ use Rattle.shr_walk.specs.Listers.{Listing}
 use Rattle.shr_walk.specs.State.{WorkerState}
 use Rattle.shr_walk.specs.declared.seats.Seats.{Seats}
 use Rattle.shr_walk.specs.declared.seats.Shared.{Shared}
-use Rattle.shr_opening.specs.Opening.{MayCharge, IsWorkerSpent}
+use Rattle.shr_cache.specs.Opening.{MayCharge, IsWorkerSpent}
 use Rattle.shr_base.specs.declared.replies.IsolateEnd.{IsolateEnd}
 use Rattle.shr_base.specs.declared.replies.IsolateEnd.TheVariants as ending
 

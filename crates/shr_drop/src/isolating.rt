@@ -3,7 +3,7 @@
 ghost use Rattle.std.specs.Prelude.{◌≤◌, length};
 ghost use Rattle.shr_core.specs.Seats.{shape_of};
 ghost use Rattle.shr_walk.specs.Acting.{IsSame};
-ghost use Rattle.shr_opening.specs.Opening.{IsTargetOf};
+ghost use Rattle.shr_cache.specs.Opening.{IsTargetOf};
 ghost use Rattle.shr_drop.specs.Isolating.{IsolateGives};
 ghost use Rattle.shr_drop.specs.Lawful.{IsolatesLawfully};
 
@@ -12,8 +12,8 @@ use shr_base::log::Log;
 use shr_base::places::{Place, Target};
 use shr_base::replies::{Answered, Reply};
 use shr_base::walks::Isolation;
-use shr_opening::opening::{Opened, open};
-use shr_opening::replies::unfound;
+use shr_cache::opening::{Opened, open};
+use shr_cache::replies::unfound;
 use shr_walk::lister::Lister;
 use shr_walk::worker::Worker;
 use std::sync::Wait;

@@ -2,3 +2,8 @@ mod Common
 mod Making
 mod Texts
 mod Validity
+mod FormsCommon
+pub mod Reading
+pub mod Splitting
+pub mod Matching
+pub mod OneForm

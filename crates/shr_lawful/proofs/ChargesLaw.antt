@@ -10,7 +10,7 @@ use Rattle.shr_lawful.proofs.ScansLaw.{only_step}
 use Rattle.shr_lawful.proofs.RepliesLaw.{told_of}
 use Rattle.shr_lawful.proofs.ReplyEntries.{IsEntryFor, entry_asked}
 use Rattle.shr_lawful.proofs.FamilyObjects.{AddIs}
-use Rattle.shr_units.proofs.DeferredLaw.{same_totals}
+use Rattle.shr_lawful.proofs.UnitDeferredLaw.{same_totals}
 
 -- ---- totals
 pub total_filter : {A : Type 0} (h : A → ℕ) (p : A → Bool) (xs : List A) → total h (filter p xs) ≡ total (λ x. cond (p x) (h x) 0) xs

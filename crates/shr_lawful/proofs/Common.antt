@@ -137,13 +137,13 @@ pub use Rattle.shr_seats.specs.Lines.{AreSo, Deed, acts_of, by_seat, part, state
 pub use Rattle.shr_seats.specs.Views.{Each}
 pub use Rattle.shr_seats.specs.Weights.{Begins, only, times, total}
 pub use Rattle.shr_seats.proofs.Lining.{acts_by}
-pub use Rattle.shr_units.proofs.Along.{slice_cases}
-pub use Rattle.shr_units.proofs.DueLaw.{filter_both, flat_zero, serial_itself}
-pub use Rattle.shr_units.proofs.Lists.{all_zero, at_some, by_slices, count_total, length_total, only_at, slice_left, some_at, sum_total, total_flat}
-pub use Rattle.shr_units.proofs.Reclaims.{cond_no, cond_yes, enumerated, not_le}
-pub use Rattle.shr_units.specs.Runs.{IsPoolWorn}
-pub use Rattle.shr_units.proofs.WalksLaw.{plain_worn, take_alike}
-pub use Rattle.shr_units.proofs.VersionsLaw.{adjacent}
+pub use Rattle.shr_lawful.proofs.UnitAlong.{slice_cases}
+pub use Rattle.shr_lawful.proofs.UnitDueLaw.{filter_both, flat_zero, serial_itself}
+pub use Rattle.shr_lawful.proofs.UnitLists.{all_zero, at_some, by_slices, count_total, length_total, only_at, slice_left, some_at, sum_total, total_flat}
+pub use Rattle.shr_lawful.proofs.UnitReclaims.{cond_no, cond_yes, enumerated, not_le}
+pub use Rattle.shr_lawful.specs.UnitRuns.{IsPoolWorn}
+pub use Rattle.shr_lawful.proofs.UnitWalksLaw.{plain_worn, take_alike}
+pub use Rattle.shr_lawful.proofs.UnitVersionsLaw.{adjacent}
 pub use Rattle.shr_walk.specs.Fresh.{AreFresh, Rising}
 pub use Rattle.shr_walk.specs.Records.{is_setting}
 pub use Rattle.shr_walk.specs.State.{WorkerState}

@@ -1,6 +1,6 @@
 -- The report of a run is lawful.
 use Rattle.shr_lawful.proofs.Common.{List, Script, Report, IsLawful, Step, IsRun}
-use Rattle.shr_units.proofs.PoolsLaw.{pools_lawful}
+use Rattle.shr_lawful.proofs.UnitPoolsLaw.{pools_lawful}
 use Rattle.shr_lawful.proofs.RepliesLaw.{replies_lawful}
 use Rattle.shr_lawful.proofs.JournalsLaw.{journals_lawful}
 use Rattle.shr_lawful.proofs.BagLaw.{bag_lawful}

@@ -54,3 +54,24 @@ pub mod WornLists
 pub mod FreeExists
 pub mod FreePuts
 mod SweepsValues
+mod UnitsCommon
+pub mod UnitLists
+pub mod UnitPooling
+pub mod UnitTries
+pub mod UnitStepKinds
+pub mod UnitRooms
+pub mod UnitWalking
+pub mod UnitAlong
+pub mod UnitMaking
+pub mod UnitPrinting
+pub mod UnitCiting
+pub mod UnitRepliesLaw
+pub mod UnitReclaims
+pub mod UnitWalkRecords
+pub mod UnitWornLaw
+pub mod UnitWalksLaw
+pub mod UnitDueLaw
+pub mod UnitVersionsLaw
+pub mod UnitDeferredLaw
+pub mod UnitPoolsLaw
+pub mod UnitFormLaw

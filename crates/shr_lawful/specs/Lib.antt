@@ -14,3 +14,6 @@ pub mod Order
 pub mod Isolating
 pub mod Sweeps
 pub mod Runs
+pub mod UnitSteps
+pub mod UnitDid
+pub mod UnitRuns

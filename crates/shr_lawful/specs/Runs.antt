@@ -38,8 +38,8 @@ use Rattle.shr_report.specs.BitsLawful.{AreBitsLawful}
 use Rattle.shr_report.specs.BitsTold.{bit_place}
 use Rattle.shr_report.specs.Deferred.{printed_at}
 use Rattle.shr_report.specs.WellFormed.{AreNumbersRising}
-use Rattle.shr_units.specs.Steps.{UnitsStep}
-use Rattle.shr_units.specs.Runs.{AreUnits}
+use Rattle.shr_lawful.specs.UnitSteps.{UnitsStep}
+use Rattle.shr_lawful.specs.UnitRuns.{AreUnits}
 use Rattle.shr_lawful.specs.Steps.{Step, gathered, steps_of, AreStepsChained}
 use Rattle.shr_lawful.specs.Entries.{StandsIn}
 use Rattle.shr_lawful.specs.Order.{IsInLine}

@@ -22,9 +22,9 @@ pub use Rattle.shr_pass.specs.declared.answers.Count.{Count}
 pub use Rattle.shr_pass.specs.declared.answers.PassAnswer.{PassAnswer}
 pub use Rattle.shr_pass.specs.declared.answers.ScanAnswer.{ScanAnswer}
 pub use Rattle.shr_pass.specs.declared.answers.ScanSeen.{ScanSeen}
-pub use Rattle.shr_rooms.proofs.Parts.{here, part_joined, there, twice}
-pub use Rattle.shr_rooms.specs.Told.{IsCount, IsRecent, IsTold}
-pub use Rattle.shr_rooms.specs.Views.{RoomCount, RoomMade, RoomView, with_room_count, with_entry, with_room_given, with_room_hand, with_known, with_room_stored}
+pub use Rattle.shr_seats.proofs.RoomParts.{here, part_joined, there, twice}
+pub use Rattle.shr_seats.specs.RoomTold.{IsCount, IsRecent, IsTold}
+pub use Rattle.shr_seats.specs.RoomViews.{RoomCount, RoomMade, RoomView, with_room_count, with_entry, with_room_given, with_room_hand, with_known, with_room_stored}
 pub use Rattle.shr_seats.proofs.Weighing.{Each-none, Each-one, Each-weaker, begins_all, begins_more, begins_push}
 pub use Rattle.shr_seats.specs.Rows.{place_of_row, row_count, row_of}
 pub use Rattle.shr_seats.specs.Views.{Each}

@@ -3,8 +3,8 @@ use Rattle.shr_plain.proofs.Common.{◌≡◌, ℕ, ◌+◌, ◌<◌, true, fals
 use mathlib.Core.Option.{Option, some}
 use lib.ListN.{get_elem?}
 use Rattle.shr_seats.specs.Standing.{IsWhole}
-use Rattle.shr_rooms.specs.Left.{IsRoomLeft}
-use Rattle.shr_rooms.proofs.Ends.{left}
+use Rattle.shr_seats.specs.RoomLeft.{IsRoomLeft}
+use Rattle.shr_seats.proofs.RoomEnds.{left}
 use Rattle.shr_plain.specs.Ending.{UnitsEndValue, units_ends_below, slot_journal}
 
 pub ends_none : (z : Sizes) (entries : ℕ → List PlainEntry) → [] ≡ units_ends_below z 0 entries

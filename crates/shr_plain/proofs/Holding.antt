@@ -2,7 +2,7 @@
 use Rattle.shr_plain.proofs.Common.{◌≡◌, ◌≢◌, ℕ, ◌+◌, ◌*◌, ◌<◌, ◌%◌, ◌/◌, ◌^◌, ◌++◌, true, false, eqb, List, [], ◌∷◌, refl, sym, ap, subst, ◌∙◌, Allows, rest, PlainEntry, row_count, Sizes, RoomView, with_room_given, with_room_stored, IsTold, here, Slot, View, IsPools, units, room_journal, parts_in, units_standing_in, spent_units_view, with_parts, with_part, part_of, UnitsSat, TakesUnitsRoom, Looked, Put, Counts, with_room_hand, twice, HoldsUnitsRoom, Changes, UnitSeat, dite, ℕ_discrete, eq-eqb, ne_eqb}
 use Rattle.std.specs.Prelude.{MatchBool}
 use prog.Atomic.{either}
-use Rattle.shr_rooms.proofs.Steps.{loads, locks, unlocks}
+use Rattle.shr_seats.proofs.RoomSteps.{loads, locks, unlocks}
 
 -- the lock word of a room may be compared with 0 and exchanged by 1
 pub pools_locks : (z : Sizes) (slots id : ℕ) (m : UnitsSat) → m.0.standing.gone ≡ false → (i : ℕ) → i < row_count z → m.1 ≡ [] → (part_of m.0 i).in_hand ≡ false

@@ -4,7 +4,7 @@ use Rattle.shr_pass.specs.declared.answers.Count.TheVariants as kinds
 use Rattle.shr_pass.specs.declared.answers.ScanAnswer.TheVariants as answered
 use Rattle.shr_pass.specs.Answers.{scans_with}
 use Rattle.shr_seats.specs.Weights.{Begins}
-use Rattle.shr_rooms.proofs.Telling.{told_recent}
+use Rattle.shr_seats.proofs.RoomTelling.{told_recent}
 use Rattle.shr_plain.proofs.FreeLaws.{journal_low}
 
 -- the three kinds of a count

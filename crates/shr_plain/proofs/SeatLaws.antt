@@ -6,7 +6,7 @@ use Rattle.shr_deferred.proofs.Seating.{some_words}
 use Rattle.shr_deferred.specs.Moves.{Move, Moves}
 use Rattle.shr_deferred.specs.Rule.{with_split_view, joined_view}
 use Rattle.shr_deferred.specs.Seat.{moves_of}
-use Rattle.shr_rooms.specs.Views.{joined_parts}
+use Rattle.shr_seats.specs.RoomViews.{joined_parts}
 use Rattle.shr_seats.specs.Lines.{Deed}
 use Rattle.shr_plain.specs.Seat.{joined_state, plain_split, plain_joined}
 

@@ -7,8 +7,8 @@ use Rattle.shr_base.specs.declared.journals.PlainEntry.TheVariants.{Release, Gra
 use Rattle.shr_base.specs.declared.replies.Spent.{Spent}
 use Rattle.shr_base.specs.declared.replies.Spent.TheVariants as spent
 use Rattle.shr_model.specs.Units.{free_of}
-use Rattle.shr_rooms.specs.Views.{part_at, with_part_at, with_known, with_entry}
-use Rattle.shr_rooms.specs.Told.{IsTold}
+use Rattle.shr_seats.specs.RoomViews.{part_at, with_part_at, with_known, with_entry}
+use Rattle.shr_seats.specs.RoomTold.{IsTold}
 use Rattle.shr_plain.specs.declared.answers.ReleaseAnswer.{ReleaseAnswer}
 use Rattle.shr_plain.specs.declared.answers.ReleaseAnswer.TheVariants as release
 use Rattle.shr_plain.specs.declared.answers.GrabAnswer.{GrabAnswer}

@@ -12,8 +12,8 @@ use Rattle.shr_pass.specs.declared.answers.ScanAnswer.{ScanAnswer}
 use Rattle.shr_pass.specs.declared.answers.ScanAnswer.TheVariants as answered
 use Rattle.shr_seats.specs.Views.{Each}
 use Rattle.shr_seats.specs.Weights.{Begins}
-use Rattle.shr_rooms.specs.Views.{RoomMade, RoomCount, RoomView}
-use Rattle.shr_rooms.specs.Told.{IsRecent}
+use Rattle.shr_seats.specs.RoomViews.{RoomMade, RoomCount, RoomView}
+use Rattle.shr_seats.specs.RoomTold.{IsRecent}
 use Rattle.shr_plain.specs.Answers.{IsJournalWorn}
 use Rattle.shr_plain.specs.Rule.{part_of}
 use Rattle.shr_plain.specs.Seat.{UnitSeat}

@@ -7,8 +7,8 @@ use Rattle.shr_base.specs.declared.journals.PlainEntry.{PlainEntry}
 use Rattle.shr_base.specs.declared.places.Place.{Place}
 use Rattle.shr_model.specs.Units.{free_of}
 use Rattle.shr_deferred.specs.Left.{left_over}
-use Rattle.shr_rooms.specs.Left.{IsRoomLeft}
-use Rattle.shr_rooms.specs.Views.{part_at}
+use Rattle.shr_seats.specs.RoomLeft.{IsRoomLeft}
+use Rattle.shr_seats.specs.RoomViews.{part_at}
 use Rattle.shr_seats.specs.Rows.{place_of_row, row_count}
 use Rattle.shr_seats.specs.declared.rows.Sizes.{Sizes}
 use Rattle.shr_plain.specs.declared.ending.PoolsEnd.{PoolsEnd}

@@ -10,8 +10,8 @@ use Rattle.shr_pass.specs.declared.answers.ScanAnswer.TheVariants as answered
 use Rattle.shr_seats.specs.Views.{Each}
 use Rattle.shr_seats.specs.Weights.{Begins}
 use Rattle.shr_seats.proofs.Weighing.{begins_all, begins_more, at_begins, Each-append, Each-none, Each-weaker}
-use Rattle.shr_rooms.specs.Views.{RoomMade, RoomCount, RoomView}
-use Rattle.shr_rooms.specs.Told.{IsRecent}
+use Rattle.shr_seats.specs.RoomViews.{RoomMade, RoomCount, RoomView}
+use Rattle.shr_seats.specs.RoomTold.{IsRecent}
 use Rattle.shr_plain.specs.declared.table.Pools.{Pools}
 use Rattle.shr_plain.specs.Counting.{IsReclaimOf, WalksUnits, KeepsUnits, TellsUnits}
 use Rattle.shr_plain.specs.Rule.{part_of}

@@ -6,8 +6,8 @@ use Rattle.shr_model.specs.Units.{IsPlainEntry, free_of}
 use Rattle.shr_seats.specs.Rows.{row_count}
 use Rattle.shr_seats.specs.declared.rows.Sizes.{Sizes}
 use Rattle.shr_seats.specs.Standing.{Standing, at_first, at_split, at_end, with_split, with_join}
-use Rattle.shr_rooms.specs.Views.{RoomView, part_at, with_part_at, joined_parts}
-use Rattle.shr_rooms.specs.Rule.{Law, AreRoomsSound}
+use Rattle.shr_seats.specs.RoomViews.{RoomView, part_at, with_part_at, joined_parts}
+use Rattle.shr_seats.specs.RoomRule.{Law, AreRoomsSound}
 use Rattle.shr_plain.specs.declared.slot.Slot.{Slot}
 use Rattle.shr_plain.specs.declared.view.View.{View}
 

@@ -8,7 +8,7 @@ use Rattle.shr_seats.specs.Lines.{acts_of}
 use Rattle.shr_seats.specs.Standing.{Standing, IsSeatOf, IsWhole, at_split, with_split, with_join}
 use Rattle.shr_deferred.specs.Moves.{Moves, no_moves, both}
 use Rattle.shr_deferred.specs.Seat as deferred
-use Rattle.shr_rooms.specs.Views.{RoomView, joined_parts}
+use Rattle.shr_seats.specs.RoomViews.{RoomView, joined_parts}
 use Rattle.shr_plain.specs.declared.table.Pools.{Pools}
 use Rattle.shr_plain.specs.declared.table.FirstPlainSeat.{FirstPlainSeat}
 use Rattle.shr_plain.specs.declared.slot.Slot.{Slot}

@@ -2,8 +2,8 @@
 use Rattle.std.specs.Prelude.{◌≡◌, ℕ, List, [], ◌∷◌}
 use Rattle.atomic_table.specs.Table.{Me}
 use Rattle.shr_base.specs.declared.journals.PlainEntry.{PlainEntry}
-use Rattle.shr_rooms.specs.Views.{with_room_hand, with_known, with_entry, with_room_count}
-use Rattle.shr_rooms.specs.Told.{IsTold, IsCount}
+use Rattle.shr_seats.specs.RoomViews.{with_room_hand, with_known, with_entry, with_room_count}
+use Rattle.shr_seats.specs.RoomTold.{IsTold, IsCount}
 use Rattle.shr_plain.specs.declared.slot.Slot.{Slot}
 use Rattle.shr_plain.specs.declared.view.View.{View}
 use Rattle.shr_plain.specs.Rule.{units, with_part, part_of}

@@ -21,8 +21,8 @@ use Rattle.shr_seats.specs.Rows.{row_of}
 use Rattle.shr_seats.specs.Views.{Each}
 use Rattle.shr_seats.specs.Weights.{Begins}
 use Rattle.shr_seats.specs.declared.rows.Sizes.{Sizes}
-use Rattle.shr_rooms.specs.Views.{RoomMade, RoomCount, RoomView, part_at}
-use Rattle.shr_rooms.specs.Told.{IsRecent}
+use Rattle.shr_seats.specs.RoomViews.{RoomMade, RoomCount, RoomView, part_at}
+use Rattle.shr_seats.specs.RoomTold.{IsRecent}
 use Rattle.shr_plain.specs.declared.settings.Setting.{Setting}
 use Rattle.shr_plain.specs.Counting.{units_kind, scans_of, IsReclaimOf, IsWornIn}
 use Rattle.shr_plain.specs.Seat.{PlainState}

@@ -2,7 +2,7 @@
 
 ghost use Rattle.std.specs.Prelude.{◌≡◌, ◌+◌, ◌*◌, ◌<◌, ◌≤◌, ◌%◌, ◌/◌, ◌^◌, true, [], ◌∷◌, ◌++◌, length, MatchBool};
 ghost use Rattle.shr_model.specs.Units.{IsPlainEntry, free_of};
-ghost use Rattle.shr_rooms.specs.Views.{with_room_stored, with_room_given};
+ghost use Rattle.shr_seats.specs.RoomViews.{with_room_stored, with_room_given};
 ghost use Rattle.shr_seats.specs.Rows.{row_count};
 ghost use Rattle.shr_seats.specs.Standing.{IsSeatOf};
 ghost use Rattle.shr_plain.specs.declared.slot.Slot.{Slot as Kept};

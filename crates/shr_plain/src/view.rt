@@ -3,7 +3,7 @@
 ghost use Rattle.std.specs.Borrow.{ftrue};
 ghost use Rattle.std.specs.Prelude.{List};
 ghost use Rattle.shr_base.specs.declared.journals.PlainEntry.{PlainEntry};
-ghost use Rattle.shr_rooms.specs.Views.{RoomView};
+ghost use Rattle.shr_seats.specs.RoomViews.{RoomView};
 ghost use Rattle.shr_seats.specs.Standing.{Standing};
 
 use std::marker::Model;

@@ -5,3 +5,4 @@ mod Keeping
 pub mod Working
 pub mod Once
 mod SweepValues
+mod Turning

@@ -3,3 +3,4 @@ pub mod Rule
 pub mod Known
 pub mod Passes
 pub mod Worked
+pub mod Helping

@@ -6,7 +6,7 @@ use Rattle.shr_script.specs.Bounds.{IsWithin, IsSweepWithin}
 use Rattle.shr_plain.specs.Seat as plain
 use Rattle.shr_pool.specs.Passes as passes
 use Rattle.shr_seats.specs.Shapes.{groups_in}
-use Rattle.shr_sweep.specs.Helping.{IsLineWithin}
+use Rattle.shr_pool.specs.Helping.{IsLineWithin}
 use Rattle.shr_worker.specs.Replies.{unfound}
 use Rattle.shr_assemble.proofs.QuietSteps.{tree_is}
 use Rattle.shr_run.proofs.Ending.{all_from_slices}

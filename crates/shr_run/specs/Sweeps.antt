@@ -9,8 +9,8 @@ use Rattle.shr_pool.specs.declared.jobs.JobQueue.{JobQueue}
 use Rattle.shr_pool.specs.declared.view.PassView.{PassView}
 use Rattle.shr_pool.specs.Passes as passes
 use Rattle.shr_pool.specs.Worked.{AreEachOnce}
-use Rattle.shr_sweep.specs.declared.answers.SweepAnswer.{SweepAnswer}
-use Rattle.shr_sweep.specs.Helping.{HelpGives, IsLineWithin}
+use Rattle.shr_pool.specs.declared.answers.SweepAnswer.{SweepAnswer}
+use Rattle.shr_pool.specs.Helping.{HelpGives, IsLineWithin}
 use Rattle.shr_walk.specs.declared.seats.Shared.{Shared}
 use Rattle.shr_walk.specs.Acting.{IsFit}
 use Rattle.shr_walk.specs.State.{IsRested, state_of}

@@ -6,3 +6,11 @@ pub mod Weighing
 pub mod Changed
 pub mod RowLaws
 mod KnownValues
+mod RoomsCommon
+pub mod RoomParts
+pub mod Room
+pub mod RoomTelling
+pub mod RoomSteps
+pub mod RoomEnds
+pub mod RoomOpenings
+mod RoomValues

@@ -4,3 +4,7 @@ pub mod Lines
 pub mod Weights
 pub mod Rows
 pub mod Shapes
+pub mod RoomViews
+pub mod RoomRule
+pub mod RoomTold
+pub mod RoomLeft

@@ -18,7 +18,7 @@ use Rattle.shr_report.specs.Puts.{IsOnlyPut, StaysOn, StaysOnline, IsFreePut, Is
 use Rattle.shr_report.specs.WellFormed.{IsWellFormed}
 use Rattle.shr_report.specs.ReplyTable.{IsReply}
 use Rattle.shr_report.proofs.QuietSweep.{own_counts}
-use Rattle.shr_forms.proofs.Reading.{few_commands}
+use Rattle.shr_gen.proofs.Reading.{few_commands}
 use Rattle.shr_run.specs.Made.{IsReportOfRun}
 use Rattle.shr_tool.specs.Summary.{replies_of, five_lines, IsUnhindered, HadEnough, IsSummary}
 use Rattle.shr_tool.proofs.GeneratedCommands.{IsMade, IsPut, sums_agree, commands_in_all, made, put_made, offline_made, no_unregister, no_limit, no_later, goes_later, same_key}

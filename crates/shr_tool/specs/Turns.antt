@@ -1,6 +1,6 @@
 -- How often the source gives bytes in a call, by its words.
 use Rattle.std.specs.Prelude.{◌≡◌, ℕ, ◌+◌, ◌≤◌, List}
-use Rattle.shr_forms.specs.Forms.{AreRunWords, AreAuditWords, AreGenWords, AreNoForm}
+use Rattle.shr_gen.specs.Forms.{AreRunWords, AreAuditWords, AreGenWords, AreNoForm}
 use Rattle.shr_tool.specs.Reading.{script_limit, audit_limit}
 
 -- one time more than it may have bytes at most, and not at all where nothing is read

@@ -1,7 +1,7 @@
 //! All that the program does.
 
 ghost use Rattle.std.specs.Prelude.{◌≤◌, ◌+◌, ℕ, map, string_bytes};
-ghost use Rattle.shr_forms.specs.Forms.{AreRunWords, AreAuditWords, AreGenWords, AreNoForm};
+ghost use Rattle.shr_gen.specs.Forms.{AreRunWords, AreAuditWords, AreGenWords, AreNoForm};
 ghost use Rattle.shr_script.specs.Content.{content_of, spell, IsValid};
 ghost use Rattle.shr_tool.specs.Audit.{AuditGives, IsJudging};
 ghost use Rattle.shr_tool.specs.Summary.{GenGives};
@@ -16,7 +16,7 @@ use crate::status::Status;
 use crate::summary::{Numbers, run_generated};
 use shr_base::memory::Memory;
 use shr_base::scripts::{Code, Script};
-use shr_forms::form::{Form, form_of};
+use shr_gen::form::{Form, form_of};
 use shr_outside::outside::{Gate, Sink, Source};
 use shr_outside::writing::write_all;
 use shr_print::printing::print_on_threads;

@@ -2,9 +2,9 @@
 
 use crate::commands::{Command, ask};
 use crate::desk::opening::{open, worker_at};
+use shr_pool::answers::SweepAnswer;
+use shr_pool::helping::help;
 use shr_pool::jobs::Jobs;
-use shr_sweep::answers::SweepAnswer;
-use shr_sweep::helping::help;
 use shr_walk::worker::Worker;
 use std::alloc::Global;
 use std::sync::Wait;

@@ -12,7 +12,7 @@ use Rattle.shr_charge.specs.declared.answers.MakeAnswer.{MakeAnswer}
 use Rattle.shr_charge.specs.Answers.{MakeTells, MakeLeaves, KnowsTree}
 use Rattle.shr_cache.specs.Dels.{DelGives}
 use Rattle.shr_cache.specs.Gets.{GetGives}
-use Rattle.shr_opening.specs.Opening.{IsWorkerSpent, MayCharge}
+use Rattle.shr_cache.specs.Opening.{IsWorkerSpent, MayCharge}
 use Rattle.shr_cache.specs.Pins.{SetPinGives}
 use Rattle.shr_cache.specs.Puts.{PutGives}
 use Rattle.shr_core.specs.Seats.{shape_of}

@@ -3,7 +3,7 @@
 ghost use Rattle.std.specs.Prelude.{◌≡◌, ◌+◌, ◌<◌, ◌≤◌, ◌^◌, IfOk, length};
 ghost use Rattle.shr_base.specs.declared.scripts.Command.TheVariants as commands;
 ghost use Rattle.shr_core.specs.Seats.{shape_of};
-ghost use Rattle.shr_opening.specs.Opening.{IsTargetOf};
+ghost use Rattle.shr_cache.specs.Opening.{IsTargetOf};
 ghost use Rattle.shr_plain.specs.Opening.{ArePoolsOf};
 ghost use Rattle.shr_plain.specs.Seat.{plain_state_of};
 ghost use Rattle.shr_script.specs.Bounds.{IsCommandWithin};

@@ -9,7 +9,7 @@ ghost use Rattle.shr_worker.specs.Commands.{MakesGroup};
 
 use crate::replies::make_reply;
 use shr_base::replies::Answered;
-use shr_opening::replies::unfound;
+use shr_cache::replies::unfound;
 use shr_walk::worker::Worker;
 use std::sync::Wait;
 

@@ -13,7 +13,7 @@ use shr_base::memory::Memory;
 use shr_base::places::Place;
 use shr_base::replies::{Answered, Reply};
 use shr_base::scripts::Script;
-use shr_opening::replies::unfound;
+use shr_cache::replies::unfound;
 use shr_plain::PlainSeat;
 use shr_walk::worker::Worker;
 use std::sync::Wait;

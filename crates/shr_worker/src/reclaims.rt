@@ -8,8 +8,8 @@ ghost use Rattle.shr_worker.specs.Commands.{Shrinks, Balances, Offlines};
 
 use crate::replies::{offline_reply, walk_reply};
 use shr_base::replies::Answered;
+use shr_cache::replies::unfound;
 use shr_offline::offlining;
-use shr_opening::replies::unfound;
 use shr_walk::balance;
 use shr_walk::balance::walk_one;
 use shr_walk::worker::Worker;

@@ -18,7 +18,7 @@ use shr_base::log::Log;
 use shr_base::memory::Memory;
 use shr_base::objects::Object;
 use shr_base::replies::{Answered, Reply};
-use shr_opening::replies::unfound;
+use shr_cache::replies::unfound;
 use shr_registry::answers::UnregisterAnswer;
 use shr_registry::{registering, unregistering};
 use shr_walk::worker::Worker;

@@ -3,7 +3,7 @@
 ghost use Rattle.std.specs.Prelude.{◌⊎◌};
 ghost use Rattle.shr_cache.specs.Puts.{PutGives};
 ghost use Rattle.shr_core.specs.Seats.{shape_of};
-ghost use Rattle.shr_opening.specs.Opening.{IsTargetOf};
+ghost use Rattle.shr_cache.specs.Opening.{IsTargetOf};
 ghost use Rattle.shr_walk.specs.Acting.{IsSame};
 ghost use Rattle.shr_worker.specs.Commands.{PutsNone};
 
@@ -11,7 +11,7 @@ use shr_base::places::Target;
 use shr_base::replies::{Answered, Reply};
 use shr_base::text::Text;
 use shr_cache::puts;
-use shr_opening::replies::unfound;
+use shr_cache::replies::unfound;
 use shr_walk::worker::Worker;
 use std::sync::Wait;
 

@@ -1,5 +1,5 @@
 use Rattle.shr_audit.proofs.Common.{Holds, AreRepliesLawful}
-use Rattle.shr_formed.proofs.Eachs.{fails}
+use Rattle.shr_audit_formed.proofs.Eachs.{fails}
 use Rattle.shr_audit.specs.declared.verdict.Law.TheVariants as laws
 use Rattle.shr_audit.proofs.asked.are_replies_held.Goals as goal
 

@@ -2,7 +2,7 @@ use Rattle.shr_audit.specs.declared.verdict.Law.TheVariants as laws
 use Rattle.shr_audit.proofs.Order.{decided}
 use Rattle.shr_audit.proofs.Premises.{few_groups, few_of_each, few_pools, some_node}
 use Rattle.shr_audit.proofs.asked.is_held.Goals as goal
-use Rattle.shr_audit_causes_law.proofs.Few.{few_commands, few_workers, is_tree}
+use Rattle.shr_audit_causes.proofs.Few.{few_commands, few_workers, is_tree}
 
 pub are_journals_lawful-requires-clause-tree : goal.are_journals_lawful-requires-clause-tree
 are_journals_lawful-requires-clause-tree c = is_tree c.args.script.now c.requires.valid

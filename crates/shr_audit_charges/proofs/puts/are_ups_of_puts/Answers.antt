@@ -1,5 +1,5 @@
 use Rattle.shr_audit_charges.specs.Puts.{IsUpOfPut}
-use Rattle.shr_formed.proofs.Eachs.{each_all, each_copied}
+use Rattle.shr_audit_formed.proofs.Eachs.{each_all, each_copied}
 use Rattle.shr_audit_charges.proofs.puts.are_ups_of_puts.Goals as goal
 
 pub loop-step-preserved : goal.loop-step-preserved

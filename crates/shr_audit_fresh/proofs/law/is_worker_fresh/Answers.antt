@@ -1,4 +1,4 @@
-use Rattle.shr_formed.proofs.Eachs.{fails}
+use Rattle.shr_audit_formed.proofs.Eachs.{fails}
 use Rattle.shr_audit_fresh.specs.Worker.{AreNumbersFresh, IsBeginStarted, IsWorkerRefused, IsWorkerFresh}
 use Rattle.shr_audit_fresh.proofs.law.is_worker_fresh.Goals as goal
 

@@ -1,5 +1,5 @@
 use Rattle.shr_audit_isolations.proofs.Common.{arith, Isolation}
-use Rattle.shr_audit_walks.proofs.Ranged.{range_filter, none_filter}
+use Rattle.shr_audit_passes.proofs.Ranged.{range_filter, none_filter}
 use Rattle.shr_audit_isolations.proofs.commands.isolations_of.Goals as goal
 
 pub returns-then-low-high : goal.returns-then-low-high

@@ -1,4 +1,4 @@
-use Rattle.shr_formed.proofs.Eachs.{each_all, each_more}
+use Rattle.shr_audit_formed.proofs.Eachs.{each_all, each_more}
 use Rattle.shr_report.specs.Pools.{AreUnitsRight}
 use Rattle.shr_audit_pools.proofs.journals.are_all_right.Goals as goal
 

@@ -1,5 +1,5 @@
 use Rattle.shr_audit_pools.proofs.Common.{ℕ, true, false, WorkerPart, more_at, IsPoolReply, IsPartRight, item_fails, items_whole}
-use Rattle.shr_case.proofs.Eachs.{each_answer_of}
+use Rattle.shr_audit_case.proofs.Eachs.{each_answer_of}
 use Rattle.shr_audit_pools.proofs.replies.are_replies_right.Goals as goal
 
 pub returns-then-not-is_part_right : goal.returns-then-not-is_part_right

@@ -1,5 +1,5 @@
 use Rattle.shr_audit_pools.proofs.Common.{arith, Reclaimed}
-use Rattle.shr_audit_walks.proofs.Ranged.{range_filter, none_filter}
+use Rattle.shr_audit_passes.proofs.Ranged.{range_filter, none_filter}
 use Rattle.shr_audit_pools.proofs.stock.with_key.Goals as goal
 
 pub returns-then-low-high : goal.returns-then-low-high

@@ -1,5 +1,5 @@
 use Rattle.shr_audit_pools.proofs.Common.{ℕ, WorkerPart, more_at, IsPartVersed, item_fails, items_whole, here_at, parts_of}
-use Rattle.shr_audit_due.proofs.Dues.{stands_here}
+use Rattle.shr_audit_pools.proofs.Dues.{stands_here}
 use Rattle.shr_audit_pools.proofs.versions.are_all_versed.Goals as goal
 
 pub is_part_versed-requires-clause-stand : goal.is_part_versed-requires-clause-stand

@@ -1,5 +1,5 @@
 use Rattle.shr_audit_replies.proofs.Common.{◌≡◌, ℕ, List, Some, slice_get, subst, Decides, WorkerPart, Answered, Command, command_at, serial_of, IsAnswered}
-use Rattle.shr_case.proofs.Eachs.{each_answer_of}
+use Rattle.shr_audit_case.proofs.Eachs.{each_answer_of}
 use Rattle.shr_audit_replies.proofs.answered.are_answered.Goals as goal
 
 pub returns : goal.returns

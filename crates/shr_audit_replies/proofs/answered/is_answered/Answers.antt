@@ -1,6 +1,6 @@
 use Rattle.shr_audit_replies.proofs.Common.{Command, command_at, serial_of, IsAnswered}
 use Rattle.shr_audit_replies.proofs.answered.is_answered.Goals as goal
-use Rattle.shr_formed.proofs.Eachs.{at_some}
+use Rattle.shr_audit_formed.proofs.Eachs.{at_some}
 
 pub returns-in-Some : goal.returns-in-Some
 returns-in-Some c =

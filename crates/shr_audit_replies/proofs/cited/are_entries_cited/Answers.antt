@@ -1,5 +1,5 @@
 use Rattle.shr_audit_replies.proofs.Common.{◌≡◌, ℕ, List, Some, slice_get, subst, Decides, PlaceEnd, Entry, EachFirst, IsCited}
-use Rattle.shr_case.proofs.Eachs.{each_entry_of}
+use Rattle.shr_audit_case.proofs.Eachs.{each_entry_of}
 use Rattle.shr_audit_replies.proofs.cited.are_entries_cited.Goals as goal
 
 pub returns : goal.returns

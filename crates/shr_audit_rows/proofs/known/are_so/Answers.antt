@@ -1,7 +1,7 @@
 use Rattle.shr_audit_rows.proofs.Common.{arith, IsAskedRight, each_all}
 use Rattle.shr_audit_rows.proofs.KnownLaws.{at_entry, from_start, low_next, so_fails}
 use Rattle.shr_audit_rows.proofs.known.are_so.Goals as goal
-use Rattle.shr_formed.proofs.Eachs.{each_copied}
+use Rattle.shr_audit_formed.proofs.Eachs.{each_copied}
 
 pub loop-n-init : goal.loop-n-init
 loop-n-init c = record {

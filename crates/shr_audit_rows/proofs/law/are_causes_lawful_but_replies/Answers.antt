@@ -1,4 +1,4 @@
-use Rattle.shr_formed.proofs.Eachs.{fails}
+use Rattle.shr_audit_formed.proofs.Eachs.{fails}
 use Rattle.shr_audit_rows.specs.Law.{AreCausesLawfulButReplies, AreEntriesCaused, AreWalksCaused}
 use Rattle.shr_audit_rows.proofs.law.are_causes_lawful_but_replies.Goals as goal
 

@@ -1,6 +1,6 @@
 use Rattle.shr_audit_rows.proofs.Common.{fails, AreEntriesCaused}
-use Rattle.shr_audit_causes.specs.Registrations.{AreRegistrationsCaused}
-use Rattle.shr_audit_causes.specs.Trees.{AreBeginsCaused, AreDonesCaused, AreMadesCaused}
+use Rattle.shr_audit_reasons.specs.Registrations.{AreRegistrationsCaused}
+use Rattle.shr_audit_reasons.specs.Trees.{AreBeginsCaused, AreDonesCaused, AreMadesCaused}
 use Rattle.shr_audit_rows.proofs.law.are_entries_caused.Goals as goal
 
 pub returns-then-not-branch : goal.returns-then-not-branch

@@ -1,6 +1,6 @@
 use Rattle.shr_audit_rows.proofs.Common.{fails, AreWalksCaused, EachAttempt, EachWalk}
-use Rattle.shr_audit_causes.specs.Walks.{CitesBegin, IsWornRightly}
-use Rattle.shr_audit_spent.specs.Passes.{ArePassesCaused}
+use Rattle.shr_audit_reasons.specs.Walks.{CitesBegin, IsWornRightly}
+use Rattle.shr_audit_reasons.specs.Passes.{ArePassesCaused}
 use Rattle.shr_audit_rows.proofs.law.are_walks_caused.Goals as goal
 
 pub returns-then-not-walks_begin : goal.returns-then-not-walks_begin

@@ -1,5 +1,5 @@
 use Rattle.shr_audit_sweep.proofs.Common.{List, ap, subst, sym, ◌∙◌, WorkerPart, WalkRecord}
-use Rattle.shr_audit_walks.specs.Commands.{StandByCommand}
+use Rattle.shr_audit_passes.specs.Commands.{StandByCommand}
 use Rattle.shr_audit_sweep.proofs.Sweeping.{swept_are, swept_stand}
 use Rattle.shr_audit_sweep.proofs.walks.sweep_walks.Goals as goal
 

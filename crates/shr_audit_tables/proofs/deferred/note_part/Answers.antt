@@ -1,5 +1,5 @@
 use Rattle.std.proofs.Common.{refl}
-use Rattle.shr_sums.proofs.Gaining.{gains_as, gains_more}
+use Rattle.shr_audit_case.proofs.Gaining.{gains_as, gains_more}
 use Rattle.shr_audit_tables.proofs.deferred.note_part.Goals as goal
 
 pub returns : goal.returns

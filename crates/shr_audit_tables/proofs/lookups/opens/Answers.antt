@@ -2,7 +2,7 @@ use Rattle.shr_audit_tables.proofs.Common.{◌≡◌, ℕ, Some, refl, slice_get
 use Rattle.shr_audit_tables.proofs.Steps.{failed}
 use Rattle.shr_audit_tables.proofs.Replay.{opening_at, opened_at, too_short, all_opened}
 use Rattle.shr_audit_tables.proofs.lookups.opens.Goals as goal
-use Rattle.shr_formed.proofs.Eachs.{at_copied}
+use Rattle.shr_audit_formed.proofs.Eachs.{at_copied}
 
 pub returns-then-n-pool : goal.returns-then-n-pool
 returns-then-n-pool c = (λ t. absurd cc, λ h. absurd (too_short c.args.on.now c.args.pool.now c.loop-n.n c.loop-n-test.true c.if-n-pool.true h))

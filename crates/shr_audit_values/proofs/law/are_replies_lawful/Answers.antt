@@ -1,4 +1,4 @@
-use Rattle.shr_formed.proofs.Eachs.{fails}
+use Rattle.shr_audit_formed.proofs.Eachs.{fails}
 use Rattle.shr_report.specs.Replies.{AreRepliesLawful}
 use Rattle.shr_audit_replies.specs.Law.{AreRepliesLawfulButValues}
 use Rattle.shr_audit_replies.proofs.Whole.{but_values, lawful_of, values_lent}

@@ -1,5 +1,5 @@
 use Rattle.shr_cache.proofs.Common.{Some, sym, subst, view_of, shape_of, DropGives, Acting, state_of, AsksToDrop}
-use Rattle.shr_opening.specs.Opening.{IsTargetOf}
+use Rattle.shr_cache.specs.Opening.{IsTargetOf}
 use Rattle.shr_cache.specs.Replies.{drop_says}
 use Rattle.shr_cache.proofs.Links.{place_there, with_core, list_asked, fit_called}
 use Rattle.shr_cache.proofs.Stays.{stays}

@@ -1,5 +1,5 @@
 use Rattle.shr_cache.proofs.Common.{Some, sym, subst, view_of, shape_of, LookGives, Acting, state_of, GetGives}
-use Rattle.shr_opening.specs.Opening.{IsTargetOf}
+use Rattle.shr_cache.specs.Opening.{IsTargetOf}
 use Rattle.shr_cache.specs.Replies.{look_says}
 use Rattle.shr_cache.proofs.Links.{place_there, with_core, list_asked, fit_called}
 use Rattle.shr_cache.proofs.Stays.{stays}

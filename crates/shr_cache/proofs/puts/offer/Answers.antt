@@ -1,7 +1,7 @@
 use Rattle.shr_cache.proofs.Common.{◌<◌, Some, sym, subst, Object, View, view_of, shape_of, fresh, AddGives, Acting, state_of, OfferedAs}
 use Rattle.shr_core.specs.declared.table.Core.{Core}
 use Rattle.shr_seats.specs.Shapes.{groups_in}
-use Rattle.shr_opening.specs.Opening.{IsTargetOf}
+use Rattle.shr_cache.specs.Opening.{IsTargetOf}
 use Rattle.shr_cache.proofs.Links.{place_there, with_core, called, fit_called}
 use Rattle.shr_cache.proofs.Stays.{stays}
 use Rattle.shr_cache.proofs.puts.offer.Goals as goal

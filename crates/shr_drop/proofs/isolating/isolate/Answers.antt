@@ -5,7 +5,7 @@ use Rattle.shr_core.specs.Seats.{Seated, view_of}
 use Rattle.shr_walk.specs.Acting.{Acting}
 use Rattle.shr_walk.specs.Listing.{IsReady}
 use Rattle.shr_walk.specs.Sharing.{IsShared}
-use Rattle.shr_opening.specs.Opening.{IsTargetOf}
+use Rattle.shr_cache.specs.Opening.{IsTargetOf}
 use Rattle.shr_drop.proofs.ByLaw.{found_lawful}
 use Rattle.shr_drop.proofs.Turning.{held_still, rested_then, with_cache}
 use Rattle.shr_drop.proofs.isolating.isolate.Goals as goal

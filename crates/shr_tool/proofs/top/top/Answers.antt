@@ -1,10 +1,10 @@
 use Rattle.std.proofs.Common.{map, refl, subst}
 use Rattle.std.specs.Prelude.{string_bytes, Some, String}
 use Rattle.std.proofs.Common.{List, Global}
-use Rattle.shr_forms.specs.Forms.{AreGenWords, ReadsAs}
+use Rattle.shr_gen.specs.Forms.{AreGenWords, ReadsAs}
 use Rattle.shr_tool.proofs.Complete.{is_complete, is_refusing}
 use Rattle.shr_tool.proofs.Judging.{is_judging}
-use Rattle.shr_forms.proofs.OneForm.{same_numbers}
+use Rattle.shr_gen.proofs.OneForm.{same_numbers}
 use Rattle.shr_tool.proofs.top.top.Goals as goal
 
 pub returns-in-Some-Run-clause-complete : goal.returns-in-Some-Run-clause-complete

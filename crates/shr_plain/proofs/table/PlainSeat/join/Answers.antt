@@ -1,5 +1,5 @@
 use Rattle.shr_plain.proofs.Common.{◌≡◌, true, subst, sym, refl, ◌∙◌, ap, row_count, part_joined, units, room_journal, parts_in, units_standing_in, spent_units_view, with_parts, joined_units_view, PlainSeated, DeferredSeated}
-use Rattle.shr_rooms.proofs.Steps.{joins}
+use Rattle.shr_seats.proofs.RoomSteps.{joins}
 use Rattle.shr_plain.proofs.SeatLaws.{has_words, unit_join, join_is}
 use Rattle.shr_plain.specs.declared.table.Pools.{Pools}
 use Rattle.shr_plain.proofs.table.PlainSeat.join.Goals as goal

@@ -1,5 +1,5 @@
 use Rattle.shr_plain.proofs.Common.{◌≡◌, true, subst, sym, refl, ◌∙◌, ap, row_count, units, room_journal, parts_in, units_standing_in, spent_units_view, with_parts, split_units_view, new_units_view, PlainSeated, DeferredSeated}
-use Rattle.shr_rooms.proofs.Steps.{splits}
+use Rattle.shr_seats.proofs.RoomSteps.{splits}
 use Rattle.shr_plain.proofs.SeatLaws.{has_words, split_is}
 use Rattle.shr_plain.proofs.table.PlainSeat.split.Goals as goal
 

@@ -1,5 +1,0 @@
-use Rattle.shr_audit_bag.proofs.Common.{◌≡◌, ◌++◌, take, flat_map, PlaceEnd, serials_of, items_of, journals_of}
-use Rattle.shr_audit_bag.proofs.gone.note_all_left.Given as goal
-
-abbrev pub invariant-loop-end : goal.invariant-loop-end
-invariant-loop-end l = l.serials.items ≡ l.fn.serials.items ++ flat_map (λ (end : PlaceEnd). serials_of (items_of l.case.parents.items (journals_of l.report) end.place)) (take l.end-index l.end-items)

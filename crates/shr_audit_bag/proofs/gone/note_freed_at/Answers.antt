@@ -1,7 +1,0 @@
-use Rattle.shr_audit_bag.proofs.Common.{◌++◌, List, map, ap, [], ◌∙◌, Serial, freed_serial}
-use Rattle.shr_replay.specs.declared.tags.FreedTag.{FreedTag}
-use Rattle.shr_audit_bag.proofs.Law.{freed_serials}
-use Rattle.shr_audit_bag.proofs.gone.note_freed_at.Goals as goal
-
-pub returns : goal.returns
-returns c = c.in_ok-note_tags.ensures ∙ ap (λ (xs : List Serial). c.args.serials.now.items ++ xs) (ap (map freed_serial) c.freed.ensures ∙ freed_serials 0 _ [] _)

@@ -1,5 +1,0 @@
-use Rattle.shr_audit_bag.proofs.Common.{◌≡◌, ◌++◌, map, take, left_serial}
-use Rattle.shr_audit_bag.proofs.gone.note_left.Given as goal
-
-abbrev pub invariant-loop-tag : goal.invariant-loop-tag
-invariant-loop-tag l = l.serials.items ≡ l.fn.serials.items ++ map left_serial (take l.tag-index l.tags)

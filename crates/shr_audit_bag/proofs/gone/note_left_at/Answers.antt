@@ -1,6 +1,0 @@
-use Rattle.shr_audit_bag.proofs.Common.{◌++◌, List, map, ap, ◌∙◌, Serial, left_serial}
-use Rattle.shr_audit_bag.proofs.Law.{left_serials}
-use Rattle.shr_audit_bag.proofs.gone.note_left_at.Goals as goal
-
-pub returns : goal.returns
-returns c = c.in_ok-note_left.ensures ∙ ap (λ (xs : List Serial). c.args.serials.now.items ++ xs) (ap (map left_serial) c.left.ensures ∙ left_serials _)

@@ -1,5 +1,0 @@
-use Rattle.shr_audit_bag.proofs.Common.{◌≡◌, [], ◌++◌, take, flat_map, PlaceEnd, added_by_all, journals_of}
-use Rattle.shr_audit_bag.proofs.noted.added_serials.Given as goal
-
-abbrev pub invariant-loop-end : goal.invariant-loop-end
-invariant-loop-end l = l.serials.items ≡ [] ++ flat_map (λ (end : PlaceEnd). added_by_all (journals_of l.report end.place)) (take l.end-index l.end-items)

@@ -1,4 +1,0 @@
-mod Common
-mod Wording
-mod Phasing
-mod Setting

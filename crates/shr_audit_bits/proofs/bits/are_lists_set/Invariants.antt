@@ -1,5 +1,0 @@
-use Rattle.shr_audit_bits.proofs.Common.{◌≡◌, ◌<◌, ℕ, Some, slice_get, PlaceEnd, IsSetIfLive}
-use Rattle.shr_audit_bits.proofs.bits.are_lists_set.Given as goal
-
-abbrev pub invariant-loop-end : goal.invariant-loop-end
-invariant-loop-end l = (k : ℕ) (end : PlaceEnd) → k < l.end-index → slice_get l.end-items k ≡ Some end → IsSetIfLive l.case.parents.items l.report end.place

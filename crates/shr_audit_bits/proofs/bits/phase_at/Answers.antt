@@ -1,4 +1,0 @@
-use Rattle.shr_audit_bits.proofs.bits.phase_at.Goals as goal
-
-pub returns : goal.returns
-returns c = λ pool are. are.each c.args.id c.ranges.id.fits

@@ -1,6 +1,0 @@
-//! Whether the bits of a report are lawful. Our own.
-#![tactic(auto)]
-
-pub mod bits;
-mod phases;
-pub mod words;

@@ -1,0 +1,5 @@
+use Rattle.shr_audit_case.proofs.Telling.{no_journal, no_values}
+use Rattle.shr_audit_case.proofs.case.Case.values.Goals as goal
+
+pub returns-in-None : goal.returns-in-None
+returns-in-None c = no_values _ _ (no_journal c.args.report.now.places.items c.args.place c.in-None.ensures)

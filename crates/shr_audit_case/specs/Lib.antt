@@ -1,0 +1,15 @@
+pub mod Places
+pub mod Each
+pub mod Lists
+pub mod Replaying
+pub mod Moves
+pub mod Deferred
+pub mod Values
+pub mod Replay
+pub mod Tags
+pub mod Replayed
+pub mod Journals
+pub mod Groups
+pub mod Live
+pub mod Met
+pub mod Steps

@@ -1,8 +1,0 @@
-use Rattle.shr_audit_causes.specs.Behind.{AreBehind, HasBehinds}
-use Rattle.shr_audit_causes.proofs.behind.behinds_of.Given as goal
-
-abbrev pub invariant-loop-n : goal.invariant-loop-n
-invariant-loop-n l = record {
-  lasts : AreBehind l.pool l.n l.lasts.items;
-  behinds : HasBehinds l.pool l.n l.behinds.items;
-}

@@ -1,5 +1,0 @@
-use Rattle.shr_audit_causes.proofs.Phases.{next_one}
-use Rattle.shr_audit_causes.proofs.cites.first_of.Goals as goal
-
-pub returns : goal.returns
-returns c = next_one c.args.pool.now c.args.id c.args.entry c.next_of-first.result c.next_of-first.ensures

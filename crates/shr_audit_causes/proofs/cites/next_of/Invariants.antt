@@ -1,5 +1,0 @@
-use Rattle.shr_audit_causes.proofs.Common.{ℕ, ◌<◌, ◌≤◌, IsEntryOfId}
-use Rattle.shr_audit_causes.proofs.cites.next_of.Given as goal
-
-abbrev pub invariant-loop-n : goal.invariant-loop-n
-invariant-loop-n l = (m : ℕ) → l.from ≤ m → m < l.n → IsEntryOfId l.pool l.id m → ⊥

@@ -1,0 +1,5 @@
+use Rattle.shr_audit_causes.proofs.OfflinesCommon.{ℕ, ◌<◌, IsOfflineCausedAt}
+use Rattle.shr_audit_causes.proofs.offline_rows.are_caused.Given as goal
+
+abbrev pub invariant-loop-worker : goal.invariant-loop-worker
+invariant-loop-worker l = (w : ℕ) → w < l.worker → (k : ℕ) → IsOfflineCausedAt l.script l.report w k

@@ -1,9 +1,0 @@
-use Rattle.std.proofs.Common.{◌≡◌, ◌≤◌, take}
-use Rattle.shr_audit_causes.proofs.Making.{on_in}
-use Rattle.shr_audit_causes.proofs.registrations.count_on.Given as goal
-
-abbrev pub invariant-loop-cache : goal.invariant-loop-cache
-invariant-loop-cache l = record {
-  count : l.on ≡ on_in (take l.cache-index l.cache-items);
-  few : l.on ≤ l.cache-index;
-}

@@ -1,5 +1,0 @@
-use Rattle.shr_audit_causes.proofs.Common.{◌≡◌, ◌<◌, ℕ, Some, slice_get, TreeEntry, IsMadeNotedOnce}
-use Rattle.shr_audit_causes.proofs.trees.are_mades_once.Given as goal
-
-abbrev pub invariant-loop-n : goal.invariant-loop-n
-invariant-loop-n l = (m : ℕ) (e : TreeEntry) → m < l.n → slice_get l.tree m ≡ Some e → IsMadeNotedOnce l.table m e

@@ -1,3 +1,0 @@
-pub mod Few
-mod Fields
-mod Whole

@@ -1,5 +1,0 @@
-use Rattle.shr_audit_due.proofs.Common.{◌≡◌, ◌<◌, ℕ, Some, slice_get, WorkerPart, EachItem, IsDue}
-use Rattle.shr_audit_due.proofs.due.are_walks_of_commands.Given as goal
-
-abbrev pub invariant-loop-part : goal.invariant-loop-part
-invariant-loop-part l = (n : ℕ) (part : WorkerPart) → n < l.part-index → slice_get l.part-items n ≡ Some part → EachItem (IsDue l.script l.report) part.plain.items

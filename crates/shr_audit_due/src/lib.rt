@@ -1,4 +1,0 @@
-//! Which walks of the pools are due to the commands of a report. Our own.
-#![tactic(auto)]
-
-pub mod due;

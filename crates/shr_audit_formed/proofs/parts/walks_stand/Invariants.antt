@@ -1,0 +1,5 @@
+use Rattle.shr_audit_formed.proofs.Common.{◌≡◌, ◌+◌, ◌<◌, ◌≤◌, ℕ, Some, slice_get, WalkRecord}
+use Rattle.shr_audit_formed.proofs.parts.walks_stand.Given as goal
+
+abbrev pub invariant-loop-i : goal.invariant-loop-i
+invariant-loop-i l = (n : ℕ) (x y : WalkRecord) → n + 1 < l.i → slice_get l.walks n ≡ Some x → slice_get l.walks (n + 1) ≡ Some y → x.by.command ≤ y.by.command

@@ -1,7 +1,0 @@
-mod Common
-pub mod Citing
-mod Clearing
-mod Filling
-mod Standing
-mod LaterLaw
-mod FilledLaw

@@ -1,5 +1,0 @@
-use Rattle.shr_audit_later.proofs.Common.{◌≡◌, ◌<◌, ℕ, Some, slice_get, WorkerPart, IsPartFilled}
-use Rattle.shr_audit_later.proofs.bits.are_bits_seen.Given as goal
-
-abbrev pub invariant-loop-worker : goal.invariant-loop-worker
-invariant-loop-worker l = (k : ℕ) (part : WorkerPart) → k < l.worker → slice_get l.parts k ≡ Some part → IsPartFilled l.case.parents.items l.report part

@@ -1,5 +1,0 @@
-use Rattle.shr_audit_later.proofs.Common.{◌≡◌, ◌<◌, ℕ, Some, slice_get, MapSeen, IsMapFull}
-use Rattle.shr_audit_later.proofs.bits.is_walk_full.Given as goal
-
-abbrev pub invariant-loop-map : goal.invariant-loop-map
-invariant-loop-map l = (k : ℕ) (m : MapSeen) → k < l.map-index → slice_get l.map-items k ≡ Some m → IsMapFull l.filled l.walk m

@@ -1,5 +1,0 @@
-use Rattle.shr_audit_later.specs.Cited.{AreHighestCited}
-use Rattle.shr_audit_later.proofs.cited.note_answers.Given as goal
-
-abbrev pub invariant-loop-k : goal.invariant-loop-k
-invariant-loop-k l = AreHighestCited l.answers l.k l.cited

@@ -1,5 +1,0 @@
-use Rattle.shr_audit_later.specs.Filled.{AreFilled}
-use Rattle.shr_audit_later.proofs.filled.note_fillings.Given as goal
-
-abbrev pub invariant-loop-k : goal.invariant-loop-k
-invariant-loop-k l = AreFilled l.case.parents.items l.report l.answers l.k l.filled

@@ -1,9 +1,0 @@
-use Rattle.shr_audit_later.proofs.Common.{◌≡◌, ◌<◌, ◌≤◌, ℕ, Some, slice_get, WalkRecord, AreHighestCited, IsWalkLater}
-use Rattle.shr_audit_later.proofs.later.are_later_in.Given as goal
-
-abbrev pub invariant-loop-n : goal.invariant-loop-n
-invariant-loop-n l = record {
-  cited : AreHighestCited l.answers l.noted l.cited;
-  low : (w : WalkRecord) → slice_get l.walks l.n ≡ Some w → l.noted ≤ w.by.command;
-  before : (k : ℕ) (w : WalkRecord) → k < l.n → slice_get l.walks k ≡ Some w → IsWalkLater l.answers w;
-}

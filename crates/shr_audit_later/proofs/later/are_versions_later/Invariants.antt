@@ -1,5 +1,0 @@
-use Rattle.shr_audit_later.proofs.Common.{◌≡◌, ◌<◌, ℕ, Some, slice_get, WorkerPart, IsPartLater}
-use Rattle.shr_audit_later.proofs.later.are_versions_later.Given as goal
-
-abbrev pub invariant-loop-worker : goal.invariant-loop-worker
-invariant-loop-worker l = (k : ℕ) (part : WorkerPart) → k < l.worker → slice_get l.parts k ≡ Some part → IsPartLater part

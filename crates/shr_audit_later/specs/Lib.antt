@@ -1,4 +1,0 @@
-pub mod Cited
-pub mod Cleared
-pub mod Filled
-pub mod Walks

@@ -1,0 +1,5 @@
+use Rattle.shr_audit_lists.proofs.Distinct.{AreNextApart}
+use Rattle.shr_audit_lists.proofs.bags.are_apart.Given as goal
+
+abbrev pub invariant-loop-i : goal.invariant-loop-i
+invariant-loop-i l = AreNextApart l.serials l.i

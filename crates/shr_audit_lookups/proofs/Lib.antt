@@ -1,3 +1,0 @@
-mod Common
-mod Deciding
-mod Whole

@@ -1,6 +1,0 @@
-use Rattle.shr_audit_lookups.proofs.Common.{◌≡◌, ◌<◌, ℕ, Some, slice_get, IsMetRight}
-use Rattle.shr_base.specs.Walks.{Attempt}
-use Rattle.shr_audit_lookups.proofs.met.are_attempts_right.Given as goal
-
-abbrev pub invariant-loop-attempt : goal.invariant-loop-attempt
-invariant-loop-attempt l = (n : ℕ) (x : Attempt) → n < l.attempt-index → slice_get l.attempt-items n ≡ Some x → IsMetRight l.report x

@@ -1,5 +1,0 @@
-use Rattle.shr_audit_lookups.proofs.Common.{◌≡◌, ◌<◌, ℕ, Some, slice_get, WorkerPart, EachItem, EachAttempt, IsMetRight}
-use Rattle.shr_audit_lookups.proofs.met.are_parts_right.Given as goal
-
-abbrev pub invariant-loop-worker : goal.invariant-loop-worker
-invariant-loop-worker l = (n : ℕ) (part : WorkerPart) → n < l.worker → slice_get l.parts n ≡ Some part → EachItem (λ w. EachAttempt w (IsMetRight l.report)) part.walks.items

@@ -1,4 +1,0 @@
-use Rattle.shr_audit_lookups.proofs.met.decl_met.Goals as goal
-
-pub returns : goal.returns
-returns c = c.decl.ensures c.args.report.now.pool.items c.requires

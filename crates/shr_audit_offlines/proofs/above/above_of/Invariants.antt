@@ -1,5 +1,0 @@
-use Rattle.shr_audit_offlines.proofs.AboveLaws.{Upto}
-use Rattle.shr_audit_offlines.proofs.above.above_of.Given as goal
-
-abbrev pub invariant-loop-group : goal.invariant-loop-group
-invariant-loop-group l = Upto l.script l.report l.group l.above.items

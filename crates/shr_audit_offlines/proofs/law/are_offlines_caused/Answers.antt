@@ -1,5 +1,0 @@
-use Rattle.shr_audit_offlines.proofs.RowLaws.{each_caused}
-use Rattle.shr_audit_offlines.proofs.law.are_offlines_caused.Goals as goal
-
-pub returns : goal.returns
-returns c = each_caused c.args.script.now c.args.report.now c.in_ok-all.all c.in_ok-all.ensures

@@ -1,5 +1,0 @@
-use Rattle.shr_audit_offlines.proofs.Common.{◌≡◌, ◌≤◌, ◌<◌, ℕ, Some, slice_get, PlaceEnd}
-use Rattle.shr_audit_offlines.proofs.moved.run_end.Given as goal
-
-abbrev pub invariant-loop-k : goal.invariant-loop-k
-invariant-loop-k l = (j : ℕ) (end : PlaceEnd) → l.from ≤ j → j < l.k → slice_get l.ends j ≡ Some end → end.place ≡ l.place

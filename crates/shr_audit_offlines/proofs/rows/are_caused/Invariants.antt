@@ -1,5 +1,0 @@
-use Rattle.shr_audit_offlines.proofs.Common.{ℕ, ◌<◌, IsOfflineCausedAt}
-use Rattle.shr_audit_offlines.proofs.rows.are_caused.Given as goal
-
-abbrev pub invariant-loop-worker : goal.invariant-loop-worker
-invariant-loop-worker l = (w : ℕ) → w < l.worker → (k : ℕ) → IsOfflineCausedAt l.script l.report w k

@@ -1,5 +1,0 @@
-use Rattle.shr_audit_offlines.proofs.Common.{ℕ, ◌<◌, IsOfflineCausedAt}
-use Rattle.shr_audit_offlines.proofs.rows.is_worker_caused.Given as goal
-
-abbrev pub invariant-loop-number : goal.invariant-loop-number
-invariant-loop-number l = (k : ℕ) → k < l.number → IsOfflineCausedAt l.script l.report l.worker k

@@ -1,4 +1,0 @@
-mod Common
-mod Order
-mod OnceLaws
-mod OnceValues

@@ -1,4 +1,0 @@
-//! Whether answers cite places that are printed twice. Our own.
-#![tactic(auto)]
-
-pub mod once;

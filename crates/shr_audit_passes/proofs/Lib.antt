@@ -1,0 +1,11 @@
+mod Common
+mod Rising
+mod Tried
+mod Arithmetic
+pub mod Parts
+pub mod Scanned
+pub mod Ranged
+mod Counted
+pub mod ShapedLaw
+mod WalksValues
+pub mod Answered

@@ -1,0 +1,5 @@
+use Rattle.shr_audit_passes.proofs.Common.{◌≡◌, map, take, Attempt}
+use Rattle.shr_audit_passes.proofs.seen.tries_begin.Given as goal
+
+abbrev pub invariant-loop-i : goal.invariant-loop-i
+invariant-loop-i l = take l.i (map (λ (a : Attempt). a.id) l.attempts) ≡ take l.i l.ids

@@ -1,0 +1,6 @@
+pub mod Seen
+pub mod Fields
+pub mod Scans
+pub mod Kinds
+pub mod Counts
+pub mod Commands

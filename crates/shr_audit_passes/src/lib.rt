@@ -1,0 +1,13 @@
+//! Whether a walk of a report is lawful. Our own.
+#![tactic(auto)]
+
+pub mod alone;
+pub mod commands;
+pub mod counts;
+pub mod kinds;
+pub mod met;
+pub mod passes;
+pub mod scans;
+pub mod seen;
+pub mod shape;
+pub mod told;

@@ -1,0 +1,12 @@
+mod Common
+pub mod Noting
+pub mod Treeing
+mod Wearing
+pub mod Phases
+mod Behinds
+mod Making
+mod CausesValues
+mod SpentCommon
+mod Counting
+mod Finding
+mod SpentValues

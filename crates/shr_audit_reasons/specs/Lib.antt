@@ -1,0 +1,7 @@
+pub mod Walks
+pub mod Cites
+pub mod Behind
+pub mod Trees
+pub mod Registrations
+pub mod Counted
+pub mod Passes

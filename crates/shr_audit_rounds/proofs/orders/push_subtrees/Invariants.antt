@@ -1,6 +1,0 @@
-use Rattle.std.proofs.Common.{◌≡◌, ◌++◌}
-use Rattle.shr_audit_rounds.proofs.Ordering.{below}
-use Rattle.shr_audit_rounds.proofs.orders.push_subtrees.Given as goal
-
-abbrev pub invariant-loop-child : goal.invariant-loop-child
-invariant-loop-child l = l.order.items ≡ l.fn.order.items ++ below l.parents l.group l.child

@@ -1,5 +1,0 @@
-use Rattle.shr_audit_rounds.proofs.Common.{ℕ, take, AllByRecursion, IsAtOrAbove}
-use Rattle.shr_audit_rounds.proofs.puts.are_above.Given as goal
-
-abbrev pub invariant-loop-above : goal.invariant-loop-above
-invariant-loop-above l = AllByRecursion (λ (h : ℕ). IsAtOrAbove l.parents h l.group) (take l.above-index l.groups)

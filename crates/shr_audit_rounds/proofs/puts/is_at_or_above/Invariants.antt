@@ -1,8 +1,0 @@
-use Rattle.shr_audit_rounds.proofs.Common.{◌↔◌, IsAtOrAbove}
-use Rattle.shr_audit_rounds.proofs.puts.is_at_or_above.Given as goal
-
-abbrev pub invariant-loop-at : goal.invariant-loop-at
-invariant-loop-at l = IsAtOrAbove l.parents l.above l.at ↔ IsAtOrAbove l.parents l.above l.group
-
-abbrev pub decreases-loop-at : goal.decreases-loop-at
-decreases-loop-at l = l.at

@@ -1,8 +1,0 @@
-use Rattle.shr_audit_rounds.proofs.Refusing.{limit_found, no_limit}
-use Rattle.shr_audit_rounds.proofs.refusals.limit_of.Goals as goal
-
-pub returns-in-Some : goal.returns-in-Some
-returns-in-Some c = limit_found c.args.script.now c.args.group c.in-Some.group.now c.if-group-eq0.false c.in-Some.ensures
-
-pub returns-in-None : goal.returns-in-None
-returns-in-None c = no_limit c.args.script.now c.args.group c.if-group-eq0.false c.in-None.ensures

@@ -1,5 +1,0 @@
-use Rattle.shr_audit_rounds.proofs.Common.{◌≡◌, take, refusals_in}
-use Rattle.shr_audit_rounds.proofs.refusals.refusals_in.Given as goal
-
-abbrev pub invariant-loop-step : goal.invariant-loop-step
-invariant-loop-step l = l.refusals.items ≡ refusals_in l.script (take l.step-index l.uses)

@@ -1,5 +1,0 @@
-use Rattle.shr_audit_scans.proofs.Common.{◌≡◌, ◌++◌, ℕ, [], take, flat_map, enumerate_from, WorkerPart, keys_of_part}
-use Rattle.shr_audit_scans.proofs.passes.keys_of.Given as goal
-
-abbrev pub invariant-loop-worker : goal.invariant-loop-worker
-invariant-loop-worker l = l.keys.items ≡ [] ++ flat_map (λ (x : ℕ × WorkerPart). keys_of_part x.0 x.1.walks.items) (take l.worker (enumerate_from 0 l.parts))

@@ -1,5 +1,0 @@
-use Rattle.shr_audit_scans.proofs.Common.{◌≡◌, ◌++◌, take, flat_map, keys_at}
-use Rattle.shr_audit_scans.proofs.passes.note_walk.Given as goal
-
-abbrev pub invariant-loop-attempt : goal.invariant-loop-attempt
-invariant-loop-attempt l = l.keys.items ≡ l.fn.keys.items ++ flat_map (keys_at l.worker l.n l.walk) (take l.attempt-index l.attempt-items)

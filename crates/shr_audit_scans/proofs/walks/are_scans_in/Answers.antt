@@ -1,5 +1,0 @@
-use Rattle.shr_audit_scans.proofs.Common.{ap, WalkRecord}
-use Rattle.shr_audit_scans.proofs.walks.are_scans_in.Goals as goal
-
-pub returns : goal.returns
-returns c = rw (ap (λ (w : WalkRecord). w.priority) c.walk.view_is) at c.are_scans_of-told.ensures

@@ -1,5 +1,0 @@
-use Rattle.shr_audit_scans.proofs.Common.{◌≡◌, ◌<◌, ℕ, Some, slice_get, WorkerPart, AreLawful}
-use Rattle.shr_audit_scans.proofs.walks.are_walks_each.Given as goal
-
-abbrev pub invariant-loop-worker : goal.invariant-loop-worker
-invariant-loop-worker l = (k : ℕ) (part : WorkerPart) → k < l.worker → slice_get l.parts k ≡ Some part → AreLawful l.known.script.now l.known.report.now k part.walks.items

@@ -1,4 +1,0 @@
-mod Common
-mod Counting
-mod Finding
-mod SpentValues

@@ -1,5 +1,0 @@
-use Rattle.shr_audit_spent.proofs.Common.{ℕ, ◌+◌, length, take, filter, is_put, IsCapped}
-use Rattle.shr_audit_spent.proofs.counted.add_puts.Given as goal
-
-abbrev pub invariant-loop-command : goal.invariant-loop-command
-invariant-loop-command l = (count : ℕ) → IsCapped l.before count → IsCapped l.puts (count + length (filter is_put (take l.command-index l.commands)))

@@ -1,5 +1,0 @@
-use Rattle.shr_audit_spent.proofs.Common.{◌≡◌, take, closed_of}
-use Rattle.shr_audit_spent.proofs.counted.closed_of.Given as goal
-
-abbrev pub invariant-loop-end : goal.invariant-loop-end
-invariant-loop-end l = l.closed.items ≡ closed_of (take l.end-index l.ends)

@@ -1,5 +1,0 @@
-use Rattle.shr_audit_spent.proofs.Common.{◌≡◌, length, take, AreCounted}
-use Rattle.shr_audit_spent.proofs.counted.count_steps.Given as goal
-
-abbrev pub invariant-loop-step : goal.invariant-loop-step
-invariant-loop-step l = (length l.counts.items ≡ l.size) × AreCounted l.kind (take l.step-index l.steps) l.counts.items

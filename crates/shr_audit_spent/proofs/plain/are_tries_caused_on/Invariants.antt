@@ -1,5 +1,0 @@
-use Rattle.shr_audit_spent.proofs.Common.{◌≡◌, ◌<◌, ℕ, Some, slice_get, PlainTry, IsTryCaused}
-use Rattle.shr_audit_spent.proofs.plain.are_tries_caused_on.Given as goal
-
-abbrev pub invariant-loop-pool : goal.invariant-loop-pool
-invariant-loop-pool l = (n : ℕ) (x : PlainTry) → n < l.pool → slice_get l.tries n ≡ Some x → IsTryCaused l.script l.report l.node n x

@@ -1,0 +1,4 @@
+use Rattle.shr_audit_tables.proofs.met.decl_met.Goals as goal
+
+pub returns : goal.returns
+returns c = c.decl.ensures c.args.report.now.pool.items c.requires

@@ -1,0 +1,5 @@
+use Rattle.shr_audit_text.proofs.Common.{◌≡◌, map, drafted_part}
+use Rattle.shr_audit_text.proofs.finish.finish_parts.Given as goal
+
+abbrev pub invariant-loop-draft : goal.invariant-loop-draft
+invariant-loop-draft l = l.parts.items ≡ map drafted_part l.yielded

@@ -1,0 +1,13 @@
+use Rattle.shr_audit_text.proofs.Common.{◌≡◌, ◌∷◌, [], ◌++◌, List, map, ap, sym, ◌∙◌, Isolation, WorkerPart, kept, with_more, last_command, drafted_part, drafted_parts, isolated, length, ◌-◌, Serial}
+use Rattle.shr_audit_text.proofs.Lasts.{by_last}
+use Rattle.shr_audit_text.proofs.Lasts.{changed_last, changed_none}
+use Rattle.shr_audit_text.proofs.parts.take_isolation.Goals as goal
+
+pub returns-in_default : goal.returns-in_default
+returns-in_default c = let none = c.in_default.ensures.cases in changed_none drafted_part (λ (p : WorkerPart). record p { isolations = with_more (isolated (last_command (length (drafted_parts c.args.parts.now.items) - 1) p) c.args.head) p.isolations }) c.args.parts.now.items c.pop.new.self.items (sym c.args.parts.now.ok.0 ∙ none.0) (sym c.pop.new.self.ok.0 ∙ none.1)
+
+pub returns : goal.returns
+returns c =
+    let y = record c.in-Some.part { isolations = c.push.new.self } in
+    let e : c.push-2.new.self.items ≡ c.pop.new.self.items ++ y ∷ [] = c.in_ok-push-2.ensures.items in
+    ap (map drafted_part) e ∙ changed_last drafted_part (λ (p : WorkerPart). record p { isolations = with_more (isolated (last_command (length (drafted_parts c.args.parts.now.items) - 1) p) c.args.head) p.isolations }) c.args.parts.now.items c.pop.new.self.items c.in-Some.part y c.in-Some.ensures.items (ap (λ (is : List Isolation). record (drafted_part c.in-Some.part) { isolations = kept is }) c.in_ok-push.ensures.items ∙ ap (λ (s : Serial). record (drafted_part c.in-Some.part) { isolations = kept (c.in-Some.part.isolations.items ++ isolated s c.args.head ∷ []) }) (by_last c.args.parts.now.items c.pop.new.self.items c.in-Some.part c.len.result c.last-by.result c.in-Some.ensures.items (c.len.ensures ∙ c.pop.new.self.ok.0) c.last-by.ensures.worker c.last-by.ensures.command))

@@ -1,0 +1,22 @@
+use Rattle.std.proofs.Common.{◌≡◌, ◌+◌, ◌*◌, ◌-◌, get_or, sym, ◌∙◌, arith}
+use Rattle.shr_audit_text.proofs.Onto.{onto_all, onto_more, onto_none, too_great}
+use Rattle.shr_audit_text.proofs.words.number.Goals as goal
+
+pub loop-b-init : goal.loop-b-init
+loop-b-init c = onto_all c.args.word.now
+
+pub returns-in_default-clause-none : goal.returns-in_default-clause-none
+returns-in_default-clause-none c = let big = c.in_default.ensures in
+    too_great c.args.word.now c.loop-b.b-index c.loop-b.n c.loop-b-test.true c.loop-b.invariant (omega (arith, big))
+
+pub returns-in_default-checked_add-clause-none : goal.returns-in_default-checked_add-clause-none
+returns-in_default-checked_add-clause-none c = let big = c.in_default-checked_add.ensures in let tens = c.in-Some.ensures in let low = c.saturating_sub.ensures in
+    too_great c.args.word.now c.loop-b.b-index c.loop-b.n c.loop-b-test.true c.loop-b.invariant (omega (arith, big, tens, low))
+
+pub loop-b-preserved : goal.loop-b-preserved
+loop-b-preserved c = let more = c.in-Some-checked_add.ensures in let tens = c.in-Some.ensures in let low = c.saturating_sub.ensures in
+    let same : c.in-Some-checked_add.more ≡ c.loop-b.n * 10 + (get_or c.args.word.now c.loop-b.b-index 0 - 48) = omega (arith, more, tens, low) in
+    rw same (sym (onto_more c.args.word.now c.loop-b.b-index c.loop-b.n c.loop-b-test.true)) ∙ c.loop-b.invariant
+
+pub returns-clause-some : goal.returns-clause-some
+returns-clause-some c = sym (onto_none c.args.word.now c.loop-b.b-index c.loop-b.n c.loop-b-test.false) ∙ c.loop-b.invariant

@@ -1,0 +1,5 @@
+pub mod Reads
+pub mod Kinds
+pub mod Said
+pub mod Draft
+pub mod Reading

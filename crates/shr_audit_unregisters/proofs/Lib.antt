@@ -1,5 +1,0 @@
-mod Common
-mod BeganLaws
-mod RowLaws
-pub mod SumsLaws
-mod UnregistersValues

@@ -1,5 +1,0 @@
-use Rattle.shr_audit_unregisters.specs.Began.{IsUpto}
-use Rattle.shr_audit_unregisters.proofs.began.Began.of.Given as goal
-
-abbrev pub invariant-loop-n : goal.invariant-loop-n
-invariant-loop-n l = IsUpto l.report.pool.items l.n l.began

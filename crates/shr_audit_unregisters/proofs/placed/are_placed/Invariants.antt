@@ -1,5 +1,0 @@
-use Rattle.shr_audit_unregisters.proofs.Common.{◌≡◌, ◌<◌, ℕ, Some, slice_get, Entry, IsDrainPlaced}
-use Rattle.shr_audit_unregisters.proofs.placed.are_placed.Given as goal
-
-abbrev pub invariant-loop-entry : goal.invariant-loop-entry
-invariant-loop-entry l = (n : ℕ) (x : Entry) → n < l.entry-index → slice_get l.entries n ≡ Some x → IsDrainPlaced l.script l.report l.place x

@@ -1,5 +1,0 @@
-use Rattle.shr_audit_unregisters.proofs.Common.{◌≡◌, ◌<◌, ◌≤◌, ℕ, Some, slice_get, PlaceEnd}
-use Rattle.shr_audit_unregisters.proofs.sums.run_end.Given as goal
-
-abbrev pub invariant-loop-n : goal.invariant-loop-n
-invariant-loop-n l = (m : ℕ) (x y : PlaceEnd) → l.k ≤ m → m < l.n → slice_get l.ends l.k ≡ Some x → slice_get l.ends m ≡ Some y → y.place ≡ x.place

@@ -1,5 +1,0 @@
-pub mod Began
-pub mod Ended
-pub mod Placed
-pub mod Rows
-pub mod Sums

@@ -1,3 +1,0 @@
-mod Common
-mod Noting
-mod Parts

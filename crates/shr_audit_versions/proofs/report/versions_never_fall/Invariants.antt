@@ -1,5 +1,0 @@
-use Rattle.shr_audit_versions.proofs.Common.{◌≡◌, ◌<◌, ℕ, Some, slice_get, WorkerPart, IsPartRising}
-use Rattle.shr_audit_versions.proofs.report.versions_never_fall.Given as goal
-
-abbrev pub invariant-loop-worker : goal.invariant-loop-worker
-invariant-loop-worker l = (k : ℕ) (part : WorkerPart) → k < l.worker → slice_get l.parts k ≡ Some part → IsPartRising part

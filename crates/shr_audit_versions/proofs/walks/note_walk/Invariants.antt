@@ -1,6 +1,0 @@
-use Rattle.shr_audit_versions.proofs.Common.{true, flat_map, take, Notes}
-use Rattle.shr_audit_versions.proofs.Noting.{tried}
-use Rattle.shr_audit_versions.proofs.walks.note_walk.Given as goal
-
-abbrev pub invariant-loop-attempt : goal.invariant-loop-attempt
-invariant-loop-attempt l = Notes l.fn.versions l.versions true (λ place. flat_map (tried l.walk place) (take l.attempt-index l.attempt-items))

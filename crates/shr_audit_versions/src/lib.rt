@@ -1,6 +1,0 @@
-//! The versions that the walks of a worker read at each place. Our own.
-#![tactic(auto)]
-
-pub mod report;
-pub mod table;
-pub mod walks;

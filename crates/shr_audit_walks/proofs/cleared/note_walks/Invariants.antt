@@ -1,0 +1,5 @@
+use Rattle.shr_audit_walks.proofs.LaterCommon.{flat_map, take, clearings_of, Clears}
+use Rattle.shr_audit_walks.proofs.cleared.note_walks.Given as goal
+
+abbrev pub invariant-loop-n : goal.invariant-loop-n
+invariant-loop-n l = Clears l.fn.cleared l.cleared (flat_map clearings_of (take l.n l.walks))

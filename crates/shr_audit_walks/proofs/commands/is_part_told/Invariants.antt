@@ -1,5 +1,0 @@
-use Rattle.shr_audit_walks.proofs.Common.{◌≡◌, ◌<◌, ℕ, Some, slice_get, Answered, IsAnswerTold}
-use Rattle.shr_audit_walks.proofs.commands.is_part_told.Given as goal
-
-abbrev pub invariant-loop-n : goal.invariant-loop-n
-invariant-loop-n l = (n : ℕ) (a : Answered) → n < l.n → slice_get l.answers n ≡ Some a → IsAnswerTold l.script l.worker l.part.walks.items n a

@@ -1,5 +1,0 @@
-use Rattle.shr_audit_walks.proofs.Common.{◌≡◌, ◌<◌, ℕ, Some, slice_get, Attempt, AreCountsIn}
-use Rattle.shr_audit_walks.proofs.counts.are_all_right.Given as goal
-
-abbrev pub invariant-loop-attempt : goal.invariant-loop-attempt
-invariant-loop-attempt l = (n : ℕ) (a : Attempt) → n < l.attempt-index → slice_get l.attempt-items n ≡ Some a → AreCountsIn l.case.parents.items l.report l.walk a

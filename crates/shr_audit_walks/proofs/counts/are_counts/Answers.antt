@@ -1,5 +1,0 @@
-use Rattle.shr_audit_walks.proofs.Counted.{counts_of_script}
-use Rattle.shr_audit_walks.proofs.counts.are_counts.Goals as goal
-
-pub returns : goal.returns
-returns c = λ s case. counts_of_script s c.args.report.now c.args.walk.now c.args.case.now.parents.items c.are_all_right-right.result case.parents c.are_all_right-right.ensures

@@ -1,6 +1,0 @@
-use Rattle.std.proofs.Common.{arith}
-use Rattle.shr_audit_walks.proofs.Arithmetic.{halved_away}
-use Rattle.shr_audit_walks.proofs.passes.halved.Goals as goal
-
-pub returns-else-times-lt64-clause-value : goal.returns-else-times-lt64-clause-value
-returns-else-times-lt64-clause-value c = halved_away c.args.x c.args.times (omega arith) (omega arith)

@@ -1,0 +1,14 @@
+use Rattle.shr_audit_walks.proofs.RoundsCommon.{◌≡◌, true, false, subst, arith, rules, nat_le, nat_tests, IsPartitionPoint-from_clause, get_or_from_slice_get, slice_get_within, Refusal, IsPartitionedBy-leb}
+use Rattle.shr_audit_walks.proofs.refusals.behind_of.Goals as goal
+
+pub returns-clause-before : goal.returns-clause-before
+returns-clause-before c = λ n x lt at.
+    let point = IsPartitionPoint-from_clause (λ (y : Refusal). nat_le y.key c.args.key) _ _ c.partition_point.ensures.partitioned (IsPartitionedBy-leb (λ (y : Refusal). y.key) c.args.refusals.now c.args.key c.requires) (λ a r q k. search rules) in
+    let t : nat_le x.key c.args.key ≡ true = subst (λ (y : Refusal). nat_le y.key c.args.key ≡ true) (get_or_from_slice_get c.args.refusals.now n x x at) (point.0 n x (omega arith) lt) in
+    grind (arith, nat_tests)
+
+pub returns-clause-behind : goal.returns-clause-behind
+returns-clause-behind c = λ n x le at.
+    let point = IsPartitionPoint-from_clause (λ (y : Refusal). nat_le y.key c.args.key) _ _ c.partition_point.ensures.partitioned (IsPartitionedBy-leb (λ (y : Refusal). y.key) c.args.refusals.now c.args.key c.requires) (λ a r q k. search rules) in
+    let t : nat_le x.key c.args.key ≡ false = subst (λ (y : Refusal). nat_le y.key c.args.key ≡ false) (get_or_from_slice_get c.args.refusals.now n x x at) (point.1 n x le (slice_get_within c.args.refusals.now n x at)) in
+    grind (arith, nat_tests)

@@ -1,5 +1,0 @@
-use Rattle.shr_audit_walks.proofs.Common.{◌≡◌, ◌+◌, sum_by, take, freed_of_scan}
-use Rattle.shr_audit_walks.proofs.scans.scans_free.Given as goal
-
-abbrev pub invariant-loop-scan : goal.invariant-loop-scan
-invariant-loop-scan l = l.left + sum_by freed_of_scan (take l.scan-index l.scans) ≡ l.told

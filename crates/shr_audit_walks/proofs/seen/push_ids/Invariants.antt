@@ -1,6 +1,0 @@
-use Rattle.std.proofs.Common.{◌≡◌, ◌++◌}
-use Rattle.shr_audit_walks.specs.Seen.{ids_set_below}
-use Rattle.shr_audit_walks.proofs.seen.push_ids.Given as goal
-
-abbrev pub invariant-loop-bit : goal.invariant-loop-bit
-invariant-loop-bit l = l.ids.items ≡ l.fn.ids.items ++ ids_set_below l.map.unit l.map.bits l.bit

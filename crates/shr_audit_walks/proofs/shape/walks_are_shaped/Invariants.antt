@@ -1,5 +1,0 @@
-use Rattle.shr_audit_walks.proofs.Common.{◌≡◌, ◌<◌, ℕ, Some, slice_get, WorkerPart, EachItem, IsShaped}
-use Rattle.shr_audit_walks.proofs.shape.walks_are_shaped.Given as goal
-
-abbrev pub invariant-loop-worker : goal.invariant-loop-worker
-invariant-loop-worker l = (n : ℕ) (part : WorkerPart) → n < l.worker → slice_get l.parts n ≡ Some part → EachItem (IsShaped l.script) part.walks.items

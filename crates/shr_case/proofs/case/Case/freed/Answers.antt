@@ -1,5 +1,0 @@
-use Rattle.shr_case.proofs.Telling.{no_journal, no_freed}
-use Rattle.shr_case.proofs.case.Case.freed.Goals as goal
-
-pub returns-in-None : goal.returns-in-None
-returns-in-None c = no_freed _ _ (no_journal c.args.report.now.places.items c.args.place c.in-None.ensures)

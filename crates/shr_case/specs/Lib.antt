@@ -1,4 +1,0 @@
-pub mod Places
-pub mod Each
-pub mod Lists
-pub mod Replaying

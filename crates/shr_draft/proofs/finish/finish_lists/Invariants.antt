@@ -1,5 +1,0 @@
-use Rattle.shr_draft.proofs.Common.{◌≡◌, map, list_of}
-use Rattle.shr_draft.proofs.finish.finish_lists.Given as goal
-
-abbrev pub invariant-loop-draft : goal.invariant-loop-draft
-invariant-loop-draft l = l.ends.items ≡ map list_of l.yielded

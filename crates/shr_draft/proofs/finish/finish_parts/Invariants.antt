@@ -1,5 +1,0 @@
-use Rattle.shr_draft.proofs.Common.{◌≡◌, map, drafted_part}
-use Rattle.shr_draft.proofs.finish.finish_parts.Given as goal
-
-abbrev pub invariant-loop-draft : goal.invariant-loop-draft
-invariant-loop-draft l = l.parts.items ≡ map drafted_part l.yielded

@@ -1,5 +1,0 @@
-use Rattle.shr_draft.proofs.Common.{◌≡◌, map, drafted_plain}
-use Rattle.shr_draft.proofs.finish.finish_plain.Given as goal
-
-abbrev pub invariant-loop-draft : goal.invariant-loop-draft
-invariant-loop-draft l = l.walks.items ≡ map drafted_plain l.yielded

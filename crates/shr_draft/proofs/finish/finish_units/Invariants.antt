@@ -1,5 +1,0 @@
-use Rattle.shr_draft.proofs.Common.{◌≡◌, map, drafted_pool}
-use Rattle.shr_draft.proofs.finish.finish_units.Given as goal
-
-abbrev pub invariant-loop-draft : goal.invariant-loop-draft
-invariant-loop-draft l = l.ends.items ≡ map drafted_pool l.yielded

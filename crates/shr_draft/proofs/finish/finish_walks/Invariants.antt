@@ -1,5 +1,0 @@
-use Rattle.shr_draft.proofs.Common.{◌≡◌, map, drafted_walk}
-use Rattle.shr_draft.proofs.finish.finish_walks.Given as goal
-
-abbrev pub invariant-loop-draft : goal.invariant-loop-draft
-invariant-loop-draft l = l.walks.items ≡ map drafted_walk l.yielded

@@ -1,5 +1,0 @@
-use Rattle.shr_formed.proofs.Common.{◌≡◌, ◌<◌, ℕ, Some, slice_get, MapSeen}
-use Rattle.shr_formed.proofs.parts.is_loaded.Given as goal
-
-abbrev pub invariant-loop-map : goal.invariant-loop-map
-invariant-loop-map l = (n : ℕ) (m : MapSeen) → n < l.map-index → slice_get l.maps n ≡ Some m → m.unit ≡ l.unit → ⊥

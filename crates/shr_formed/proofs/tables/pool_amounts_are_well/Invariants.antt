@@ -1,5 +1,0 @@
-use Rattle.shr_formed.proofs.Common.{◌≡◌, ◌<◌, ℕ, Some, slice_get, PlaceAmount, IsPoolAmountWell}
-use Rattle.shr_formed.proofs.tables.pool_amounts_are_well.Given as goal
-
-abbrev pub invariant-loop-d : goal.invariant-loop-d
-invariant-loop-d l = (n : ℕ) (x : PlaceAmount) → n < l.d-index → slice_get l.amounts n ≡ Some x → IsPoolAmountWell x

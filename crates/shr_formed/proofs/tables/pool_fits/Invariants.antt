@@ -1,6 +1,0 @@
-use Rattle.shr_formed.proofs.Common.{◌≡◌, ◌<◌, ℕ, Some, slice_get, IsPoolNumbered}
-use Rattle.shr_base.specs.declared.journals.PoolEntry.{PoolEntry}
-use Rattle.shr_formed.proofs.tables.pool_fits.Given as goal
-
-abbrev pub invariant-loop-entry : goal.invariant-loop-entry
-invariant-loop-entry l = (n : ℕ) (x : PoolEntry) → n < l.entry-index → slice_get l.entries n ≡ Some x → IsPoolNumbered x

@@ -1,8 +1,0 @@
-//! Laws of forms, as the clauses of functions that do nothing.
-
-ghost use Rattle.shr_forms.specs.Forms.{IsOneForm};
-
-/// No words are read in two ways: as two forms, or as one and as none. Our own.
-pub fn one_form()
-    ensures { IsOneForm }
-{}

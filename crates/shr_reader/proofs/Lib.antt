@@ -1,2 +1,0 @@
-mod Onto
-mod ReaderValues

@@ -1,7 +1,0 @@
-use Rattle.std.proofs.Common.{◌≡◌, drop}
-use Rattle.shr_report.specs.ReadWords.{num}
-use Rattle.shr_reader.proofs.Onto.{onto}
-use Rattle.shr_reader.proofs.words.number.Given as goal
-
-abbrev pub invariant-loop-b : goal.invariant-loop-b
-invariant-loop-b l = onto l.n (drop l.b-index l.word) ≡ num l.word

@@ -1,7 +1,0 @@
-use Rattle.shr_model.specs.Pieces.{left}
-use Rattle.shr_reader.proofs.Onto.{none_left}
-use Rattle.shr_reader.proofs.words.word.Goals as goal
-
-pub returns-in-None-clause-later : goal.returns-in-None-clause-later
-unfolding left
-returns-in-None-clause-later c = let e = c.in-None.ensures in none_left _ e

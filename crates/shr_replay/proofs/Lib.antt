@@ -1,8 +1,0 @@
-mod Common
-mod Listing
-mod Matching
-mod Moving
-mod Taking
-mod Following
-mod Climbing
-mod ReplayValues

@@ -1,9 +1,0 @@
-use Rattle.std.proofs.Common.{length}
-use Rattle.shr_replay.proofs.Matching.{IsMatched}
-use Rattle.shr_replay.proofs.items.are_items.Given as goal
-
-abbrev pub invariant-objects : goal.invariant-objects
-invariant-objects l = IsMatched l.queue.nodes l.at l.printed.items l.walk
-
-abbrev pub decreases-objects : goal.decreases-objects
-decreases-objects l = length l.walk

@@ -1,6 +1,0 @@
-use Rattle.std.proofs.Common.{◌≡◌, ◌++◌, map, take}
-use Rattle.shr_replay.specs.Tags.{freed_tag}
-use Rattle.shr_replay.proofs.tags.note_freed.Given as goal
-
-abbrev pub invariant-loop-object : goal.invariant-loop-object
-invariant-loop-object l = l.tags.items ≡ l.fn.tags.items ++ map (freed_tag l.entry) (take l.object-index l.freed)

@@ -1,4 +1,0 @@
-pub mod Views
-pub mod Rule
-pub mod Told
-pub mod Left

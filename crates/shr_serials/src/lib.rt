@@ -1,4 +1,0 @@
-//! Lists of serials as bags. Our own.
-#![tactic(auto)]
-
-pub mod bags;
