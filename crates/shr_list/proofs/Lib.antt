@@ -17,3 +17,4 @@ pub mod Walks
 pub mod Scans
 pub mod Slots
 pub mod Firsts
+pub mod Lengths
