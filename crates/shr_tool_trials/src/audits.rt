@@ -74,27 +74,6 @@ fn audit<R: Threads + Wait + Sync>(
     judge(rt, alloc, bytes, ends, text)
 }
 
-// A script, what stands behind it, and what is answered.
-const ROWS: [(&str, &str, Status, &str); 6] = [
-    (SCRIPT, TEXT, Status::Done, "lawful\n"),
-    (SCRIPT, OTHER, Status::Unlawful, "unlawful L3\n"),
-    (SCRIPT, "", Status::Refused, "refused report\n"),
-    (SCRIPT, SCRIPT, Status::Refused, "refused report\n"),
-    ("end\n", TEXT, Status::Refused, "refused 1 BadHeader\n"),
-    ("shrinkers 1\n", "end", Status::Refused, "refused 2 NoEnd\n"),
-];
-
-#[test]
-fn each_verdict_is_told(rt: HostRuntime) -> Result<(), Fail> {
-    for piece in [1, 7, 65_536] {
-        for (script, report, status, text) in ROWS {
-            let told = audit(&rt, rt.alloc(), script, report, whole(piece), text)?;
-            assert_eq!(rt; told, (status, Some(text.len()), 0));
-        }
-    }
-    Ok(())
-}
-
 #[test]
 fn each_read_of_an_audit_may_fail(rt: HostRuntime) -> Result<(), Fail> {
     for read in 1..PIECES + 2 {

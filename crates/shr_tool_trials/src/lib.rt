@@ -1,4 +1,4 @@
-//! Ends, scripts and reports by calls, and whole runs of the program with gates and with ends that fail.
+//! Ends, long scripts and long reports by calls, and whole runs of the program with gates and with ends that fail.
 #![tactic(auto)]
 
 #[cfg(test)]
@@ -13,8 +13,6 @@ mod gates;
 mod printing;
 #[cfg(test)]
 mod reading;
-#[cfg(test)]
-mod report;
 #[cfg(test)]
 mod runs;
 #[cfg(test)]

@@ -1,12 +1,10 @@
-//! Lists, words, rooms, registrations and charges by calls, by one thread and by two.
+//! Lists, words, rooms and registrations by calls, by one thread and by two.
 #![tactic(auto)]
 
 #[cfg(test)]
 mod acts;
 #[cfg(test)]
 mod calls;
-#[cfg(test)]
-mod charges;
 #[cfg(test)]
 mod desk;
 #[cfg(test)]

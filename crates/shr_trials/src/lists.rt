@@ -1,11 +1,9 @@
 //! The calls of a list at known values.
 
-use shr_base::items::Items;
-use shr_base::memory::Memory;
 use shr_base::objects::{Object, Policy};
 use shr_base::places::Serial;
 use shr_base::text::Text;
-use shr_list::answers::{AddAnswer, CloseAnswer, DropAnswer, ListScan, Slot};
+use shr_list::answers::{AddAnswer, CloseAnswer, DropAnswer, Slot};
 use shr_list::list::List;
 use std::alloc::Global;
 use std::hash::{FoldHasher, Hasher};
@@ -112,96 +110,6 @@ fn add_keys(alloc: Global, list: &mut List, count: usize, shape: u32) -> Result<
     for key in KEYS.iter().take(count) {
         add_key(list, object(alloc, key)?, &Text::of(alloc, key)?, bits);
         bits /= 4;
-    }
-    Ok(())
-}
-
-// An object in letters: its key, `*` if it is marked and `!` if it is pinned.
-fn spell(text: &mut Vec<u8>, object: &Object) -> Result<(), Memory> {
-    text.extend_from_slice(object.key.bytes())?;
-    if object.marked {
-        text.push(b'*')?;
-    }
-    if object.pinned {
-        text.push(b'!')?;
-    }
-    Ok(())
-}
-
-fn spell_items(text: &mut Vec<u8>, items: &Items) -> Result<(), Memory> {
-    let mut walk = items.walk();
-    for met in 0..items.len() {
-        if let Some(object) = walk.next() {
-            spell(text, object)?;
-        }
-    }
-    Ok(())
-}
-
-// What a scan freed, what it left and how many it met, in letters.
-fn spell_scan(
-    text: &mut Vec<u8>,
-    freed: &[Object],
-    left: &Items,
-    visits: u32,
-) -> Result<(), Memory> {
-    for object in freed {
-        spell(text, object)?;
-    }
-    text.push(b'|')?;
-    spell_items(text, left)?;
-    text.push(b'|')?;
-    text.push((visits % 10) as u8 + b'0')?;
-    Ok(())
-}
-
-// Scans a list, spells the scan, and tells whether an object stopped it.
-fn scan(
-    text: &mut Vec<u8>,
-    mut list: List,
-    policy: Policy,
-    asked: u32,
-) -> Result<Option<bool>, Memory> {
-    let ListScan::Scanned {
-        entry: _,
-        freed,
-        visits,
-        stopped,
-    } = list.scan(0, 0, policy, asked)
-    else {
-        return Ok(None);
-    };
-    let (_, left) = list.into_parts();
-    spell_scan(text, freed.as_slice(), &left, visits)?;
-    Ok(Some(stopped))
-}
-
-// Whether a scan of the first `count` keys comes to this text, and was stopped or not.
-fn comes_to(alloc: Global, row: &Scan) -> Result<bool, Fail> {
-    let (policy, count, shape, asked, letters, stopped) = *row;
-    let mut list = List::new(alloc, 5, 100);
-    add_keys(alloc, &mut list, count, shape)?;
-    let mut text = Vec::new(alloc);
-    let is_stopped = scan(&mut text, list, policy, asked)?;
-    Ok(is_stopped == Some(stopped) && text.as_slice() == letters)
-}
-
-// A policy, how many objects, their marks and pins, the budget, what the scan comes to, and whether
-// an object stopped it.
-type Scan = (Policy, usize, u32, u32, &'static [u8], bool);
-
-const SCANS: [Scan; 5] = [
-    (Policy::Clock, 2, 5, 4, b"ab||4", false),
-    (Policy::Clock, 1, 1, 4, b"|a|1", false),
-    (Policy::Clock, 2, 5, 1, b"|b*a|1", false),
-    (Policy::Halt, 3, 8, 3, b"a|b!c|2", true),
-    (Policy::Halt, 3, 8, 0, b"|ab!c|0", false),
-];
-
-#[test]
-fn a_rotated_object_is_met_once_more(rt: HostRuntime) -> Result<(), Fail> {
-    for (i, row) in SCANS.iter().enumerate() {
-        assert!(rt; comes_to(rt.alloc(), row)?, "{i}");
     }
     Ok(())
 }

@@ -21,8 +21,8 @@ pub(crate) enum Command {
 /// charges of the worker. Our own.
 pub(crate) type Heard = (&'static str, u32);
 
-/// What an answer says. Our own.
-pub(crate) fn heard(answer: Option<Answered>) -> Heard {
+// What an answer says.
+fn heard(answer: Option<Answered>) -> Heard {
     let Some(answered) = answer else {
         return ("nothing", 0);
     };
@@ -62,4 +62,18 @@ pub(crate) fn ask<R: Wait>(
         Command::Pin => Some(pins::set_pin(worker, target, &key, true)),
         Command::Unpin => Some(pins::set_pin(worker, target, &key, false)),
     }
+}
+
+/// Gives the commands of these rows on a group, and tells the first that heard something else. Our own.
+pub(crate) fn first_unlike<R: Wait>(
+    worker: &mut Worker<'_, R>,
+    group: u16,
+    rows: &[(Command, Heard)],
+) -> Option<usize> {
+    for (i, (command, told)) in rows.iter().enumerate() {
+        if heard(ask(worker, *command, group, b"k")) != *told {
+            return Some(i);
+        }
+    }
+    None
 }

@@ -12,8 +12,6 @@ mod fakes;
 #[cfg(test)]
 mod formulas;
 #[cfg(test)]
-mod isolations;
-#[cfg(test)]
 mod passes;
 #[cfg(test)]
 mod replies;

@@ -1,4 +1,4 @@
-//! The worked passes, over a fake that counts one number and answers its scans by a plan.
+//! Passes whose scans end as no script makes them, over a fake that counts one number and answers its scans by a plan.
 
 ghost use Rattle.std.specs.Prelude.{◌≡◌, None};
 ghost use Rattle.shr_seats.specs.Rows.{IsPlaceOf};
@@ -149,25 +149,6 @@ struct Row {
     ending: Ending,
 }
 
-// Passes whose scans free all that they are asked: how many asks, how much was scanned, and what is
-// next.
-const WHOLE: [(Given, u32, u64, u64); 7] = [
-    ((100, 0, 0, 2, 0), 1, 128, 72),
-    ((60, 0, 0, 2, 0), 1, 120, 0),
-    ((1000, 5000, 2, 2, 0), 13, 1664, 2000),
-    ((9, 0, 0, 0, 0), 0, 0, 4),
-    // A batch of its own, and one above the count.
-    ((1000, 0, 0, 2, 900), 2, 1800, 200),
-    ((1000, 0, 0, 2, 20_000), 1, 2000, 0),
-    // A word near its end: what is left is cut to twice the count.
-    ((1000, u64::MAX, 12, 2, 0), 15, 1920, 2000),
-];
-
-// The same of 1000 objects at each priority from 0 to 12: the asks, each of 128, and what is next.
-const ASKS: [u32; 13] = [15, 7, 3, 1, 0, 0, 0, 0, 0, 0, 0, 0, 0];
-
-const NEXT: [u64; 13] = [80, 104, 116, 122, 124, 62, 30, 14, 6, 2, 0, 0, 0];
-
 // Passes over 1000 objects at priority 0 with 7 deferred, whose scans after the good ones are
 // answered so: the asks and those that found a closed list, what was scanned and freed, what is
 // next, and the ending.
@@ -220,19 +201,6 @@ fn pass_of<R: Abort>(rt: &R, alloc: Global, seat: &mut DeferredSeat<'_>, row: &R
     }
 }
 
-// The row of a pass whose scans free all that they are asked.
-fn whole(of: Given, asks: u32, scanned: u64, next: u64) -> Row {
-    Row {
-        of,
-        good: u64::MAX,
-        then: Stop,
-        asks: (asks, 0),
-        scanned: (scanned, scanned),
-        next,
-        ending: Through,
-    }
-}
-
 // Makes the pass of a row over a new table, and sees that the row tells of it and of the deferred
 // word.
 fn passes<R: Abort>(rt: &R, alloc: Global, row: Row) -> Result<(), Fail> {
@@ -245,18 +213,6 @@ fn passes<R: Abort>(rt: &R, alloc: Global, row: Row) -> Result<(), Fail> {
     assert_eq!(rt; (pass.scanned, pass.freed), row.scanned);
     assert_eq!(rt; (pass.next, pass.ending), (row.next, row.ending));
     assert_eq!(rt; seat.take(HERE), row.next);
-    Ok(())
-}
-
-#[test]
-fn passes_whose_scans_free_all(rt: HostRuntime) -> Result<(), Fail> {
-    for (of, asks, scanned, next) in WHOLE {
-        passes(&rt, rt.alloc(), whole(of, asks, scanned, next))?;
-    }
-    for (priority, (asks, next)) in ASKS.iter().zip(NEXT).enumerate() {
-        let of = (1000, 0, priority as u8, 2, 0);
-        passes(&rt, rt.alloc(), whole(of, *asks, 128 * *asks as u64, next))?;
-    }
     Ok(())
 }
 
@@ -277,23 +233,5 @@ fn passes_with_another_scan(rt: HostRuntime) -> Result<(), Fail> {
             },
         )?;
     }
-    Ok(())
-}
-
-#[test]
-fn what_a_stop_defers_is_taken_over(rt: HostRuntime) -> Result<(), Fail> {
-    let (deferred, first) = Deferred::new(rt.alloc(), ONE)?;
-    let mut seat = first.at(&deferred);
-    let mut row = whole((1000, 0, 0, 2, 0), 15, 1920, 2000);
-    row.good = 0;
-    let first = pass_of(&rt, rt.alloc(), &mut seat, &row);
-    assert_eq!(rt;
-        (first.asks, first.next, first.ending),
-        (0, 2000, Ending::Stop)
-    );
-    row.good = u64::MAX;
-    let second = pass_of(&rt, rt.alloc(), &mut seat, &row);
-    assert_eq!(rt; (second.nr, second.asks, second.scanned), (2000, 15, 1920));
-    assert_eq!(rt; (second.next, second.ending), (2000, Through));
     Ok(())
 }

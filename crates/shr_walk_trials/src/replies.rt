@@ -1,7 +1,6 @@
-//! What each command is answered at a group that can't end, and to a worker that is used up.
+//! What each command is answered at a group that can't end.
 
-use crate::commands::{Command, Heard, ask, heard};
-use crate::desk::charges::wear;
+use crate::commands::{Command, Heard, first_unlike};
 use crate::desk::left::place_of;
 use crate::desk::lists::{drop_key, fill};
 use crate::desk::opening::{open, worker_at};
@@ -14,49 +13,11 @@ use std::alloc::Global;
 use std::sync::Wait;
 use std::test::Fail;
 
-// A command on a group, and what it is to hear.
-type Row = (Command, Heard);
-
-// Gives the commands of these rows on a group, and tells the first that heard something else.
-fn first_unlike<R: Wait>(worker: &mut Worker<'_, R>, group: u16, rows: &[Row]) -> Option<usize> {
-    for (i, (command, told)) in rows.iter().enumerate() {
-        if heard(ask(worker, *command, group, b"k")) != *told {
-            return Some(i);
-        }
-    }
-    None
-}
-
-const ONE: &[u8] = b"shrinkers 1\nsize 1 1\ngroup /a max\ncache dentry clock 2 0 0 any on\nend\n";
-
-const WITHOUT_CHARGES: [Row; 4] = [
-    (Command::Put, ("worn", 1_048_576)),
-    (Command::Del, ("worn", 1_048_576)),
-    (Command::Get, ("miss", 0)),
-    (Command::Pin, ("miss", 1)),
-];
-
-// The first command that a worker whose charges are used up is not answered as it must be.
-fn unlike_when_worn<R: Wait>(rt: &R, alloc: Global) -> Result<Option<usize>, Fail> {
-    let (shared, first) = open(alloc, ONE)?;
-    let mut worker = worker_at(rt, &shared, first)?;
-    wear(&mut worker);
-    let unlike = first_unlike(&mut worker, 1, &WITHOUT_CHARGES);
-    Ok(unlike)
-}
-
-#[test]
-fn a_worker_without_charges_only_looks_and_pins(rt: HostRuntime) -> Result<(), Fail> {
-    let unlike = unlike_when_worn(&rt, rt.alloc())?;
-    assert_eq!(rt; unlike, None);
-    Ok(())
-}
-
 // /p is group 1, and /p/c group 2.
 const FAMILY: &[u8] =
     b"shrinkers 1\nsize 1 1\ngroup /p max\ngroup /p/c max\ncache dentry clock 2 0 0 any on\nend\n";
 
-const GOING: [Row; 5] = [
+const GOING: [(Command, Heard); 5] = [
     (Command::Put, ("offline", 0)),
     (Command::Get, ("offline", 0)),
     (Command::Del, ("offline", 0)),

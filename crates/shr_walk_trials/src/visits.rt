@@ -2,9 +2,8 @@
 
 use crate::desk::holding::{hold, rest};
 use crate::desk::left::place_of;
-use crate::desk::lists::fill;
 use crate::desk::opening::{open, worker_at};
-use crate::desk::words::{is_set, take_deferred};
+use crate::desk::words::is_set;
 use crate::fakes::Fake;
 use shr_base::walks::{Ending, Outcome, PassRecord};
 use shr_walk::visiting;
@@ -89,29 +88,5 @@ fn an_object_behind_the_first_count_is_found_by_the_second(rt: HostRuntime) -> R
     assert_eq!(rt; at_the_floor, (Some(skip), Some(true)));
     let above_it = visited_late(&rt, rt.alloc(), 0)?;
     assert_eq!(rt; above_it, (Some(ran), Some(true)));
-    Ok(())
-}
-
-// What a visit of a list with one object comes to whose scan finds no memory, and what it defers.
-fn visited_without_memory<R: Wait>(
-    rt: &R,
-    alloc: Global,
-) -> Result<(Option<Outcome>, Option<u64>), Fail> {
-    let (shared, first) = open(alloc, PLAIN)?;
-    let mut worker = worker_at(rt, &shared, first)?;
-    fill(&mut worker, place_of(1), 1);
-    let outcome = visit(&mut worker, 0, false, 0);
-    let deferred = take_deferred(&mut worker, place_of(1));
-    Ok((outcome, deferred))
-}
-
-#[test]
-fn what_a_scan_without_memory_leaves_is_deferred(rt: HostRuntime) -> Result<(), Fail> {
-    let ran = Outcome::Ran {
-        number: 1,
-        pass: pass(2, Ending::NoRoom),
-    };
-    let visited = visited_without_memory(&rt, rt.alloc())?;
-    assert_eq!(rt; visited, (Some(ran), Some(2)));
     Ok(())
 }

@@ -40,11 +40,3 @@ pub fn defer<R: Wait>(worker: &mut Worker<'_, R>, place: Place, more: u64) -> bo
     worker.seats.deferred.give(place, more);
     true
 }
-
-/// What is deferred at a place. It is deferred there no more. Our own.
-pub fn take_deferred<R: Wait>(worker: &mut Worker<'_, R>, place: Place) -> Option<u64> {
-    if !is_place(worker.shared, place) {
-        return None;
-    }
-    Some(worker.seats.deferred.take(place))
-}
