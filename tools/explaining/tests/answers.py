@@ -10,7 +10,7 @@ import sys
 from explaining.refusals import script_or_fault
 
 TOP = os.path.dirname(os.path.dirname(os.path.dirname(os.path.dirname(os.path.abspath(__file__)))))
-SUITE = f"{TOP}/crates/shr_suite/data"
+SUITE = f"{TOP}/suite"
 HERE = f"{TOP}/tools/explaining/tests"
 
 

@@ -1,8 +1,0 @@
-use Rattle.std.proofs.Common.{◌≡◌, ℕ, ◌<◌, ◌≤◌, length}
-use denote.Text.{Utf8}
-use denote.Shadow.{shadow}
-use Rattle.shr_suite.proofs.rules.lost_list.Given as goal
-
--- what was kept of a line is text
-abbrev pub invariant-loop-line : goal.invariant-loop-line
-invariant-loop-line l = (goal.iterator-loop-line).can_next l.line-iterator × (goal.iterator-loop-line).is_finite l.line-iterator × shadow (Utf8 l.list)
