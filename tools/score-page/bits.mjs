@@ -28,7 +28,16 @@ export function lost_bits(report) {
     if (group === 0 || !items.length || !caches.has(id)) continue;
     const bits = printed.get(`${node} ${group} ${id >> 6}`) ?? null;
     if (bits && has_bit(bits.bits, id)) continue;
-    lost.push({place: place_name(id, node, group), id, node, group, cache: caches.get(id), objects: items.length, line, bits});
+    lost.push({
+      place: place_name(id, node, group),
+      id,
+      node,
+      group,
+      cache: caches.get(id),
+      objects: items.length,
+      line,
+      bits
+    });
   }
   return lost;
 }

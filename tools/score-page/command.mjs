@@ -1,6 +1,7 @@
 // The command line: pages of reports, and whether reports have an order.
 
 import {mkdirSync, writeFileSync} from 'node:fs';
+
 import {page_of} from './bundle.mjs';
 import {read_run} from './check.mjs';
 import {runs_of} from './files.mjs';
@@ -24,10 +25,13 @@ const say = text => process.stderr.write(`tools/score: ${text}\n`);
 // Whether the report has an order and no fault, as lines; the status.
 function check({path, report, script}) {
   const run = read_run(report, script), told = run.error ? [run.error] : run.faults.map(fault => fault.words);
-  if (!told.length) told.push(`an order of its ${run.row.length} steps was found`);
+  if (!told.length) told.push(`an order of its ${run.row.length} steps was found${open_places(run.open)}`);
   process.stdout.write(told.map(line => `${path}: ${line}\n`).join(''));
   return run.error || run.faults.length ? 1 : 0;
 }
+
+const open_places = open =>
+    open ? `; at ${open} place${open === 1 ? '' : 's'} the order of deferred work was left undecided` : '';
 
 const name_of = path => (path === '-' ? 'a report' : path.replace(/^.*\//, '').replace(/\.(report|input)$/, ''));
 

@@ -16,6 +16,7 @@ export const WHY = {
   room: 'the list is in hand until its bit is set',
   bit: 'that is what the map showed of the bit',
   sweep: 'a sweep begins when all workers are done',
+  defer: 'a take takes all that was deferred until then, and nothing else',
 };
 const REASONS = Object.keys(WHY), NUMBER = Object.fromEntries(REASONS.map((why, number) => [why, number]));
 

@@ -22,7 +22,9 @@ class Plan {
     this.held = [];
   }
 
-  number(at) { return Number(this.command.answer[at]); }
+  number(at) {
+    return Number(this.command.answer[at]);
+  }
 
   step(step) {
     step.worker = this.who.worker;
@@ -31,12 +33,19 @@ class Plan {
   }
 
   then(step) {
-    if (step) this.steps.push(step);
+    if (step && !this.is_of_another(step)) this.steps.push(step);
     return step;
   }
 
+  // Whether another command cited the step already, which is told as a fault of the answers.
+  is_of_another({worker, command}) {
+    return worker !== undefined && (worker !== this.who.worker || (command ?? this.who.command) !== this.who.command);
+  }
+
   /** An operation on a usage that the worker makes here; which it is, is found once all are known. */
-  use(group, up) { this.steps.push({group, up, is_use: true}); }
+  use(group, up) {
+    this.steps.push({group, up, is_use: true});
+  }
 
   /** The operations of a charge or an uncharge: a group and those above it, up to `last`. */
   uses(group, up, last = 0) {
@@ -162,10 +171,21 @@ class Plan {
       this.clear(list, what);
       this.count(list, look.counts[1], what);
     }
+    if (look.pass) this.takes('take', list, look.pass.nr);
     for (const scan of this.run.scans.get(`${this.who.worker} w${walk.number} ${list}`) ?? []) this.scan(scan);
     if (look.pass?.closed) this.found_closed(list, what);
+    if (look.pass) this.gives(list, look.pass.next);
     if (outcome === 'restored') this.set_again(list, what);
     this.held.push({id: look.id, number: look.number, position: this.steps.length});
+  }
+
+  /** All that is deferred at a place is taken: by a pass, or to carry it to the parent's. */
+  takes(on, list, amount) {
+    return this.then(this.run.defer({on, list, amount, takes: true, ...this.who}));
+  }
+
+  gives(list, amount) {
+    if (amount > 0n) this.then(this.run.defer({on: 'give', list, amount, takes: false, ...this.who}));
   }
 
   gone(look, list, what, lookup) {
@@ -183,9 +203,13 @@ class Plan {
     lookup.then = look.outcome;
   }
 
-  clear(list, what) { this.run.note_clear(this.then(this.step({on: 'clear', list, ...what})), this.who.worker); }
+  clear(list, what) {
+    this.run.note_clear(this.then(this.step({on: 'clear', list, ...what})), this.who.worker);
+  }
 
-  set_again(list, what) { this.run.note_set(this.then(this.step({on: 'set', list, ...what})), this.who.worker); }
+  set_again(list, what) {
+    this.run.note_set(this.then(this.step({on: 'set', list, ...what})), this.who.worker);
+  }
 
   lookup(id, number, what) {
     const step = this.step({on: 'lookup', id, number, ...what});
@@ -194,7 +218,9 @@ class Plan {
     return step;
   }
 
-  count(list, version, what) { this.seen(this.run.lists.get(list) ?? [], version, 'count', 'count', {list, ...what}); }
+  count(list, version, what) {
+    this.seen(this.run.lists.get(list) ?? [], version, 'count', 'count', {list, ...what});
+  }
 
   /** What showed so many entries of a journal stands behind the last of them and before the next. */
   seen(row, entries, on, why, what) {
@@ -258,13 +284,25 @@ class Plan {
       const done = run.tree[this.number(1)];
       if (this.is_alone(done.group)) this.hand_over(done.group);
     }
-    if (offlines)
-      for (const carry of this.command.carries) this.then(this.step({on: 'carry', ...carry}));
+    if (offlines) this.carries(run.tree[this.number(1)].group);
     if (answer === 'done' && offlines) this.then(run.tree[this.number(1)]);
     if (answer === 'alreadydone' || answer === 'alreadymade') {
       const step = this.then(this.step({on: 'treeseen', entries: this.number(1) + 1, shown: this.number(1)}));
       run.before(run.tree[this.number(1)], step, 'state');
     }
+  }
+
+  /** The deferred work of a group is carried to its parent's. Whether an offline that came too late took, only a carry tells. */
+  carries(group) {
+    const {report} = this.run, amounts = new Map();
+    if (this.answer === 'alreadydone' && !this.command.carries.length) return;
+    for (const {id, node, group: at, amount} of this.command.carries) amounts.set(place_name(id, node, at), amount);
+    for (let id = 0; id < report.ids; id++)
+      for (let node = 0; node < report.nodes; node++) {
+        const list = place_name(id, node, group), amount = amounts.get(list) ?? 0n;
+        this.takes(amount > 0n ? 'carry' : 'take', list, amount);
+        this.gives(place_name(id, node, report.parents[group]), amount);
+      }
   }
 
   /** Whether no other command can have had part in taking a group offline. */
@@ -282,14 +320,14 @@ class Plan {
   /** The group begins to go offline; on each list it and what hangs below it unmade is closed, the highest number first. */
   hand_over(group) {
     const {run} = this, {report} = run;
-    const is_below = at => {
-      let up = at;
-      while (up > group) up = report.parents[up];
-      return up === group;
+    // A group that was never made goes with the nearest group above it that went offline.
+    const is_with = at => {
+      if (run.begun.has(at)) return at === group;
+      let up = report.parents[at];
+      while (up > group && !run.begun.has(up)) up = report.parents[up];
+      return at > group && up === group;
     };
-    const groups = report.groups.map((_, number) => number)
-                       .filter(at => at === group || (is_below(at) && !run.begun.has(at)))
-                       .reverse();
+    const groups = report.groups.map((_, number) => number).filter(is_with).reverse();
     this.then(run.begun.get(group));
     for (let id = 0; id < report.ids; id++)
       for (let node = 0; node < report.nodes; node++)
@@ -324,11 +362,11 @@ class Plan {
     this.then(
         this.step({on: 'plain', plain: walk.number, node: walk.node, priority: walk.priority, freed: walk.freed}));
     for (const pass of walk.passes) {
-      const flat = run.script ? run.script.pools[pass.pool].flat :
-                                !run.units.has(`${pass.pool} ${walk.node}`) && pass.version > 0;
-      const list = `${pass.pool} ${flat ? 0 : walk.node}`;
+      const list = `${pass.pool} ${run.flat[pass.pool] ? 0 : walk.node}`;
       this.seen(run.units.get(list) ?? [], pass.version, 'unitscount', 'count', {list});
+      if (pass.pass) this.takes('take', list, pass.pass.nr);
       for (const step of run.reclaims.get(`${this.who.worker} ${walk.number} ${pass.pool}`) ?? []) this.then(step);
+      if (pass.pass) this.gives(list, pass.pass.next);
     }
   }
 

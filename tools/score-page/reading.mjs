@@ -1,6 +1,6 @@
 // Reads a report of `shrinkers`, of the forms 1 and 2, and refuses anything else with the line and what was expected there.
 
-import {KEY, Lines, NAME, PATH, Refusal, VALUE, WORD, parents_of, place} from './lines.mjs';
+import {KEY, Lines, NAME, parents_of, PATH, place, Refusal, VALUE, WORD} from './lines.mjs';
 import {workers} from './replies.mjs';
 
 const ISOLATIONS = 2n ** 63n;
@@ -42,6 +42,7 @@ export function read_report(text) {
     units: [],
     bits: [],
     deferred: [],
+    pool_deferred: [],
     uses: [],
     lookups: [],
     total: null,
@@ -122,7 +123,9 @@ function journals(lines, report) {
   }
 }
 
-function serial(lines) { return {worker: lines.count('W', 63), command: lines.count('K', WORD)}; }
+function serial(lines) {
+  return {worker: lines.count('W', 63), command: lines.count('K', WORD)};
+}
 
 function object(lines, report) {
   return {...serial(lines), birth: lines.below('BIRTH', report.groups.length), key: lines.match('a key', KEY)};
@@ -256,9 +259,11 @@ function ends(lines, report) {
   }
   while (lines.first === 'pooldeferred' && version === 2) {
     lines.form('pooldeferred P NODE N');
-    lines.below('P', report.pools.length);
-    lines.below('NODE', report.nodes);
-    lines.wide('N');
+    report.pool_deferred.push({
+      pool: lines.below('P', report.pools.length),
+      node: lines.below('NODE', report.nodes),
+      amount: lines.wide('N')
+    });
     lines.done();
   }
   let last = {group: 0, operation: -1};

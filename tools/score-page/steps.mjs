@@ -1,5 +1,6 @@
 // All steps that a report tells, and what must come before what: journals, counts, lookups, usages, and each worker's commands.
 
+import {deferring_places, flat_pools, left_at_end} from './deferred.mjs';
 import {Graph} from './order.mjs';
 import {plan_of} from './plans.mjs';
 import {place_name, play} from './replay.mjs';
@@ -12,7 +13,7 @@ export function steps_of(report, script = null) {
   for (const command of report.commands) run.command(command);
   run.lookups_in_order();
   run.maps();
-  return {graph: run.graph, played: run.played, lists: run.lists, units: run.units};
+  return run;
 }
 
 /** What is known of a report while its commands are gone through one by one, in the order of workers and commands. */
@@ -42,11 +43,27 @@ export class Run {
     this.begun = new Map();
     this.made = new Map();
     this.tree_done = new Map();
+    // The places at which work was deferred, and the takes and gives there.
+    this.flat = flat_pools(report, script);
+    this.deferring = deferring_places(report, this.flat);
+    this.deferred = new Map();
+    this.left = left_at_end(report);
   }
 
-  add(step) { return this.graph.add(step); }
+  add(step) {
+    return this.graph.add(step);
+  }
 
-  before(one, other, why) { this.graph.before(one, other, why); }
+  before(one, other, why) {
+    this.graph.before(one, other, why);
+  }
+
+  /** A take or a give of deferred work, or null at a place where none was ever deferred. */
+  defer(step) {
+    if (!this.deferring.has(step.list)) return null;
+    this.gather(this.deferred, step.list, this.add(step));
+    return step;
+  }
 
   own(worker, command) {
     const name = worker * 2 ** 32 + command;
@@ -150,7 +167,9 @@ export class Run {
   }
 
   // A bit is set under an entry of its list; a bit that a walk sets again is none of these.
-  entry_before(step) { return step.under ?? Infinity; }
+  entry_before(step) {
+    return step.under ?? Infinity;
+  }
 
   note_clear(step, worker) {
     this.bits.own.set(`${worker} ${step.list}`, null);

@@ -2,9 +2,13 @@
 
 /** Says the steps of one run in words; `report` names its groups, caches and pools. */
 export class Words {
-  constructor(report) { this.report = report; }
+  constructor(report) {
+    this.report = report;
+  }
 
-  group(number) { return this.report.groups[number]; }
+  group(number) {
+    return this.report.groups[number];
+  }
 
   place(name) {
     const [id, node, group] = name.split(' ').map(Number);
@@ -19,15 +23,40 @@ export class Words {
   /** A list that lost its bit, and where the report says so. */
   lost({id, node, group, cache, objects, line, bits}) {
     const what = `the list of ${this.group(group)}, node ${node}, cache ${this.report.caches[cache]} (id ${id})`;
-    const seen = bits ? `its bit is clear (line ${bits.line}: bit ${id & 63} of ${bits.bits})` : 'the report has no line of its bit';
+    const seen = bits ? `its bit is clear (line ${bits.line}: bit ${id & 63} of ${bits.bits})` :
+                        'the report has no line of its bit';
     return `A bit is lost: ${what}, holds ${plural(objects, 'object')} at the end (line ${line}), and ${seen}. ` +
         `No walk of ${this.group(group)} asks ${this.report.caches[cache]} for them.`;
   }
 
-  who(step) { return step.worker === undefined ? '' : `worker ${step.worker}, command ${step.command}`; }
+  /** The place of a deferred word, of a list or of a pool. */
+  word(name) {
+    return name.split(' ').length === 3 ? this.place(name) : this.pool(name);
+  }
+
+  /** How far an order of the takes and gives of a place goes, and which steps then wait for each other. */
+  stuck({place, left, all, done, value, next, rows, made}) {
+    const head =
+        `There is no order of the takes and gives of deferred work at ${this.word(place)}, in which each take takes ` +
+        `all that was deferred. In the one that goes furthest ${done} of ${plural(all, 'step')} are done, and ${
+            value} is deferred`;
+    if (!next.length) return `${head}; the report prints ${left}.`;
+    const takes = next.filter(step => step.takes)
+                      .map(step => `  ${this.full(step)}\n    can't come next, since that isn't what is deferred\n`);
+    const behind = rows.flatMap((row, at) => row.slice(made[at] + 1).filter(step => !step.takes)).slice(0, 3);
+    const waits = behind.map(
+        step => `  ${this.full(step)}\n    waits for that, since worker ${step.worker} takes them in this order\n`);
+    return `${head}. Then\n${[...takes, ...waits].join('')}`.trimEnd();
+  }
+
+  who(step) {
+    return step.worker === undefined ? '' : `worker ${step.worker}, command ${step.command}`;
+  }
 
   /** A step, without who takes it. */
-  step(step) { return TELLS[step.on](step, this); }
+  step(step) {
+    return TELLS[step.on](step, this);
+  }
 
   /** A step with who takes it, as in a cycle. */
   full(step) {
@@ -57,14 +86,14 @@ const TELLS = {
   end: ({answer}) => `ends with the answer ${answer.join(' ')}`,
   pool: (s, w) =>
       (s.kind === 'idle' ?
-           `the id ${s.id} is idle again (registration journal, entry ${s.entry})` :
-           `the cache ${w.report.caches[s.cache]} is ${s.kind} under the id ${s.id} (registration journal, entry ${
+           `the id ${s.id} is idle again (journal of registrations, entry ${s.entry})` :
+           `the cache ${w.report.caches[s.cache]} is ${s.kind} under the id ${s.id} (journal of registrations, entry ${
                s.entry}), ${s.kind === 'registered' ? 'from' : 'up to'} lookup ${s.number}`),
   tree: (s, w) => `the group ${w.group(s.group)} ${{
     begin: 'begins to go offline',
     done: 'is offline, and all it had is handed over',
     made: 'is made'
-  }[s.kind]} (offlining journal, entry ${s.entry})`,
+  }[s.kind]} (journal of groups, entry ${s.entry})`,
   list: (s, w) => `${ENTRY[s.kind](s, w)}: entry ${s.entry} of ${w.place(s.list)}`,
   units: (s, w) => `${UNITS[s.kind](s)}: entry ${s.entry} of ${w.pool(s.list)}`,
   use: (s, w) =>
@@ -85,12 +114,14 @@ const TELLS = {
   poolknown: s => `knows ${plural(s.entries, 'entry', 'entries')} of the journal of registrations`,
   treeseen: (s, w) =>
       (s.shown === undefined ?
-           `sees ${plural(s.entries, 'entry', 'entries')} in the journal of offlining` :
-           `finds entry ${s.shown} in the journal of offlining: ${w.group(w.report.tree[s.shown].group)} ${
+           `sees ${plural(s.entries, 'entry', 'entries')} in the journal of groups` :
+           `finds entry ${s.shown} in the journal of groups: ${w.group(w.report.tree[s.shown].group)} ${
                w.report.tree[s.shown].kind === 'made' ? 'is made' : 'is done'}`),
   unitsseen: s => `sees ${plural(s.entries, 'entry', 'entries')} in the journal of the pool`,
-  carry: (s, w) =>
-      `carries deferred work of ${s.amount} from ${w.place(`${s.id} ${s.node} ${s.group}`)} to its parent's`,
+  carry: (s, w) => `carries deferred work of ${s.amount} from ${w.word(s.list)} to its parent's`,
+  take: (s, w) =>
+      `takes ${s.amount > 0n ? `the deferred work of ${s.amount}` : 'no deferred work'} at ${w.word(s.list)}`,
+  give: (s, w) => `defers work of ${s.amount} at ${w.word(s.list)}`,
   wait: s => `waits until nobody holds the id ${s.id} any more`,
   plain: s => `walks the pools on node ${s.node} with priority ${s.priority}: freed ${s.freed}`,
   barrier: () => 'all workers are done, and the sweep begins',

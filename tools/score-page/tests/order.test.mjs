@@ -2,10 +2,12 @@
 
 import assert from 'node:assert/strict';
 import {test} from 'node:test';
+
 import {read_run} from '../check.mjs';
 import {Graph, order, shortest_cycle} from '../order.mjs';
 import {read_report} from '../reading.mjs';
 import {steps_of} from '../steps.mjs';
+
 import {EXAMPLES, reports_of, second_form} from './cases.mjs';
 import {chance, many} from './many.mjs';
 
@@ -26,6 +28,12 @@ function agrees(run) {
   for (const step of on('count')) {
     const row = run.lists.get(step.list) ?? [];
     assert.ok((row[step.entries - 1]?.at ?? -1) < step.at && step.at < (row[step.entries]?.at ?? Infinity), 'a count');
+  }
+  const deferred = new Map();
+  for (const step of run.row) {
+    if (step.takes === undefined) continue;
+    if (step.takes) assert.equal(step.amount, deferred.get(step.list) ?? 0n, 'a take');
+    deferred.set(step.list, step.takes ? 0n : (deferred.get(step.list) ?? 0n) + step.amount);
   }
   const last = new Map();
   for (const step of run.row)
@@ -90,7 +98,8 @@ function least_facts(graph) {
   let least = Infinity;
   const chains = {own: true, journal: true, lookup: true, use: true}, edges = [];
   const reasons = [
-    'own', 'journal', 'count', 'lookup', 'range', 'seen', 'state', 'use', 'held', 'move', 'shut', 'room', 'bit', 'sweep'
+    'own', 'journal', 'count', 'lookup', 'range', 'seen', 'state', 'use', 'held', 'move', 'shut', 'room', 'bit',
+    'sweep', 'defer'
   ];
   for (let e = 0; e < graph.edges; e++) edges.push([graph.from[e], graph.to[e], reasons[graph.why[e]]]);
   const go = (start, at, path, seen) => {
