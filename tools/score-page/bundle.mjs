@@ -3,8 +3,8 @@
 import {readFileSync} from 'node:fs';
 
 const MODULES = [
-  'lines', 'replies', 'reading', 'script', 'replay', 'bits', 'answers', 'deferred', 'order', 'plans', 'steps', 'words',
-  'check', 'rows', 'look', 'picture', 'search', 'panel', 'page'
+  'lines', 'replies', 'reading', 'script', 'replay',  'bits',    'answers', 'deferred', 'order',  'plans',  'steps',
+  'words', 'check',   'rows',    'look',   'bitline', 'picture', 'search',  'panel',    'legend', 'listen', 'page'
 ];
 
 const source = name => readFileSync(new URL(name, import.meta.url), 'utf8');

@@ -31,8 +31,9 @@ export function read_run(report_text, script_text = '') {
   const faults = [...answer_faults(report, script), ...lost.map(one => ({words: words.lost(one), place: one.place}))];
   const found = in_order(run, words);
   if (found.error) return {error: [...faults.map(fault => fault.words), found.error].join('\n'), is_cycle: true};
-  const {played, lists, units} = run;
-  return {report, script, ...found, played, lists, units, words, lost, faults};
+  const {graph, played, lists, units} = run;
+  words.turns(found.row);
+  return {report, script, ...found, graph, played, lists, units, words, lost, faults};
 }
 
 // All steps in one row, and at how many places the order of deferred work is open; or why there is none.

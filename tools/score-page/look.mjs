@@ -57,6 +57,14 @@ export function kind_of_entry(entry) {
   return {kind, mark};
 }
 
+/** What is known of a bit over a stretch, with the word that the legend has. */
+export const BITS = {
+  set: 'bit set',
+  clear: 'bit clear',
+  unsure: 'not known',
+  lost: 'bit lost'
+};
+
 const LIGHT = {
   ink: '#1a212b',
   dim: '#565f6b',
@@ -68,7 +76,8 @@ const LIGHT = {
   hatch: '#9aa3af',
   off: '#dcdfe4',
   live: '#f2d193',
-  cursor: '#1a212b'
+  cursor: '#1a212b',
+  lost: '#d0021b'
 };
 const DARK = {
   ink: '#e8ecf1',
@@ -81,7 +90,8 @@ const DARK = {
   hatch: '#76808d',
   off: '#2f3741',
   live: '#7a5a1c',
-  cursor: '#ffffff'
+  cursor: '#ffffff',
+  lost: '#ff5c5c'
 };
 
 /** The colours of the form that the system asks for; print is light. */

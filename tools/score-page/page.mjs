@@ -1,14 +1,15 @@
 // The page: what is pointed at by the pointer and the keys, zoom, search, opening another report, and print.
 
 import {read_run} from './check.mjs';
-import {KINDS, draw_mark, theme} from './look.mjs';
-import {command_panel, element, help_panel, results_panel, row_panel} from './panel.mjs';
-import {GUTTER, Picture, RULER, lay_out, row_at} from './picture.mjs';
-import {command_name, first_from, rows_of} from './rows.mjs';
+import {fault_lines, legend} from './legend.mjs';
+import {listen, part} from './listen.mjs';
+import {theme} from './look.mjs';
+import {command_panel, help_panel, results_panel, row_panel} from './panel.mjs';
+import {GUTTER, lay_out, Picture, row_at, RULER} from './picture.mjs';
+import {command_name, first_from, rows_of, toggled} from './rows.mjs';
 import {search} from './search.mjs';
 
 const MOST_WIDTH = 15e6, MOST_ZOOM = 64, PRINT_WIDTH = 1040, MOST_PRINT_HEIGHT = 8000;
-const part = name => document.getElementById(name);
 
 export class Page {
   constructor() {
@@ -29,7 +30,7 @@ export class Page {
     };
     this.found = {words: '', results: [], which: -1};
     this.pointed = null;
-    this.listen();
+    listen(this);
     this.legend();
   }
 
@@ -38,6 +39,8 @@ export class Page {
     const run = read_run(report, script);
     part('refused').hidden = !run.error;
     part('main').hidden = Boolean(run.error);
+    part('faults').hidden = !run.faults?.length;
+    part('faults').replaceChildren(...fault_lines(run.faults ?? [], place => this.go_to_list(place)));
     part('name').textContent = name;
     document.title = `${name}: a run of shrinkers`;
     if (run.error) {
@@ -111,7 +114,7 @@ export class Page {
   /** What is at a place of the picture: a row and a moment, and a command where there is one. */
   at(x, y) {
     const {view, score} = this, row = row_at(score.rows, y + view.top);
-    if (!row || y < RULER || x < GUTTER) return null;
+    if (!row || y < RULER || (x < GUTTER && row.kind !== 'fold')) return null;
     const moment = Math.max(0, Math.min(score.steps - 1, Math.floor((x - GUTTER + view.left) / view.zoom)));
     if (row.kind === 'worker') {
       const command = this.command_of(row, moment);
@@ -185,6 +188,7 @@ export class Page {
   along(direction, by_command) {
     const row = this.view.cursor?.row ?? this.score.rows.find(one => one.kind === 'worker');
     if (!row) return;
+    if (row.kind === 'fold' && (direction > 0) !== row.is_open) this.toggle(row);
     const {moments} = row, at = this.view.cursor?.at ?? -1;
     if (by_command && row.kind === 'worker') {
       const place = first_from(row.to, at),
@@ -229,8 +233,11 @@ export class Page {
     const {row, command} = this.found.results[which];
     if (command)
       this.go(this.score.rows.find(one => one.kind === 'worker' && one.worker === command.worker), command.from);
-    else
+    else {
+      const fold = this.score.rows.find(one => one.hidden?.includes(row));
+      if (fold && !fold.is_open) this.toggle(fold);
       this.go(row, row.moments[0] ?? 0);
+    }
   }
 
   // The panel: what the search found, then what is pointed at or kept.
@@ -249,18 +256,28 @@ export class Page {
     part('panel').scrollTop = 0;
     if (target?.row.kind === 'worker') part('panel').querySelector('.steps .here')?.scrollIntoView({block: 'nearest'});
     if (!this.pointed && cursor)
-      part('said').textContent =
+      part('said').textContent = cursor.row.kind === 'fold' ?
+          cursor.row.label :
           `${cursor.row.label}, step ${cursor.at}: ${this.run.words.step(this.run.row[cursor.at])}`;
   }
 
   legend() {
-    part('legend').replaceChildren(...Object.values(KINDS).map(({word, colour, mark}) => {
-      const canvas = element('canvas', {width: 32, height: 32, 'aria-hidden': 'true'}), pen = canvas.getContext('2d');
-      pen.scale(2, 2);
-      draw_mark(pen, mark, 8, 8, 12.5, theme(this.dark.matches && !this.view.printing).ink);
-      draw_mark(pen, mark, 8, 8, 10, colour);
-      return element('span', {}, canvas, word);
-    }));
+    part('legend').replaceChildren(...legend(theme(this.dark.matches && !this.view.printing)));
+  }
+
+  /** Shows or hides the lists behind a row. */
+  toggle(fold) {
+    this.score.rows = toggled(this.score.rows, fold);
+    this.score.height = lay_out(this.score.rows);
+    this.zoom_to(this.view.zoom);
+    this.redraw();
+  }
+
+  // The list of a place, at its last step.
+  go_to_list(place) {
+    const row = this.score.rows.find(one => one.name === place && one.kind === 'list');
+    this.go(row, row.moments.at(-1) ?? 0);
+    this.scroller.focus();
   }
 
   key(event) {
@@ -332,50 +349,6 @@ export class Page {
       Object.assign(this.view, this.kept, {printing: false});
     this.legend();
     this.draw();
-  }
-
-  listen() {
-    const {scroller} = this, place = event => {
-      const box = scroller.getBoundingClientRect();
-      return [event.clientX - box.left, event.clientY - box.top];
-    };
-    scroller.addEventListener('scroll', () => this.scrolled());
-    scroller.addEventListener('pointermove', event => {
-      if (this.score) this.point(this.at(...place(event)));
-    });
-    scroller.addEventListener('pointerleave', () => {
-      if (this.score) this.point(null);
-    });
-    scroller.addEventListener('click', event => {
-      if (this.score) this.choose(this.at(...place(event)));
-    });
-    scroller.addEventListener('wheel', event => {
-      if (!event.ctrlKey || !this.score) return;
-      event.preventDefault();
-      this.zoom_to(this.view.zoom * Math.exp(-event.deltaY / 300), place(event)[0]);
-    }, {passive: false});
-    document.addEventListener('keydown', event => this.key(event));
-    part('search').addEventListener('input', event => this.search(event.target.value.trim()));
-    part('files').addEventListener('change', async event => {
-      await this.open([...event.target.files]);
-      // The same file may be opened again once it was changed.
-      part('files').value = '';
-    });
-    part('in').addEventListener('click', () => this.zoom_by(1.5));
-    part('out').addEventListener('click', () => this.zoom_by(1 / 1.5));
-    part('all').addEventListener('click', () => this.fit());
-    addEventListener('resize', () => {
-      if (this.score && !this.view.printing) {
-        this.measure();
-        this.zoom_to(this.view.zoom);
-      }
-    });
-    addEventListener('beforeprint', () => this.print(true));
-    addEventListener('afterprint', () => this.print(false));
-    this.dark.addEventListener('change', () => {
-      this.legend();
-      this.redraw();
-    });
   }
 
   /** Opens a report, and a script with it where two files are given. */

@@ -1,7 +1,8 @@
 // The panel beside the picture: what is pointed at, in words. It shows at most some hundred lines, and says how many more
 // there are.
 
-import {KINDS, kind_of_answer} from './look.mjs';
+import {bit_at} from './bitline.mjs';
+import {kind_of_answer, KINDS} from './look.mjs';
 import {fates} from './replay.mjs';
 import {command_name, first_from} from './rows.mjs';
 
@@ -69,7 +70,14 @@ export function row_panel(run, row, at) {
           row.kind === 'usage'     ? 'group ' :
               row.kind === 'list'  ? 'list of ' :
               row.kind === 'units' ? 'pool ' :
-                                     ''}${row.label}, after step ${at}`);
+                                     ''}${row.label}${row.kind === 'fold' ? '' : `, after step ${at}`}`);
+  if (row.kind === 'fold')
+    return [
+      head,
+      element(
+          'p', {},
+          'Taking a group offline closes the lists of all ids, also of those that no cache ever had. A click, or → and ←, shows and hides these rows.')
+    ];
   if (row.kind === 'list') return [head, ...list_at(run, row, at)];
   if (row.kind === 'usage') return [head, element('p', {}, usage_at(row, at))];
   if (row.kind === 'id') return [head, element('p', {}, id_at(row, at))];
@@ -95,6 +103,20 @@ function id_at(row, at) {
   return span ? `${span.cache}, ${span.dying ? 'dying: no lookup finds it any more' : 'live'}` : 'idle';
 }
 
+const BIT_WORDS = {
+  set: 'The bit is set: a walk of the group asks the cache.',
+  clear: 'The bit is clear: a walk of the group passes the cache by.',
+  unsure: 'Whether the bit is set isn’t known here: what walks saw of it doesn’t tell when it changed.',
+};
+
+// What the list's bit was at a moment.
+function bit_lines(run, row, at) {
+  const state = bit_at(row.bit, at);
+  if (state === null) return [];
+  if (state !== 'lost') return [element('p', {}, BIT_WORDS[state])];
+  return [element('p', {class: 'lost'}, run.words.lost(row.lost))];
+}
+
 function list_at(run, row, at) {
   const count = first_from(row.at, at + 1), items = run.played.get(row.name).items_after(count),
         shown = items.slice(0, MOST_LINES);
@@ -108,7 +130,8 @@ function list_at(run, row, at) {
     element(
         'p', {},
         `holds ${items.length} object${items.length === 1 ? '' : 's'} after ${count} of ${row.entries.length} entries${
-            row.closed !== null && at >= row.closed ? '; closed for ever' : ''}`),
+            row.closed !== null && at >= row.closed ? '; closed for ever' : ''} (id ${row.id}, node ${row.node})`),
+    ...bit_lines(run, row, at),
     entry ?
         element(
             'p', {},
@@ -152,7 +175,7 @@ export function results_panel(words, results, which, go) {
 const KEYS = [
   ['← →', 'from step to step of a worker, from entry to entry of a list, from change to change of a group or an id'],
   ['Shift ← →', 'from command to command'],
-  ['↑ ↓', 'from worker to worker, and on to the groups, ids and lists'],
+  ['↑ ↓', 'from worker to worker, and on to the groups, caches and lists'],
   ['Home End', 'the first and the last of the row'],
   ['+ −', 'zoom, around the step that is pointed at; 0 shows all'],
   ['/', 'search a key, a group, a cache or a command; n and N go to the next found and the one before'],
@@ -178,6 +201,6 @@ export function help_panel() {
                     element('tr', {}, element('th', {}, element('kbd', {}, key)), element('td', {}, what))))),
     element(
         'p', {class: 'dim'},
-        'Hatched: a group that is going offline, or an id whose cache is being unregistered. Grey: a group that is offline, or a list that is closed. Dashed: a group’s limit, where the script is given. Nothing is claimed to be proved of this page.'),
+        'Hatched: a group that is going offline, or an id whose cache is being unregistered. Grey: a group that is offline, or a list that is closed. The line below a list is its bit: thick while it is set, thin while it is clear, broken where the report doesn’t tell when it changed, red where objects are left and it is lost. Dashed: a group’s limit, where the script is given. Nothing is claimed to be proved of this page.'),
   ];
 }

@@ -1,6 +1,7 @@
 // The picture: the rows on a canvas, of which only what is seen is drawn.
 
-import {KINDS, draw_mark, ink_on, kind_of_answer, kind_of_entry} from './look.mjs';
+import {draw_bit} from './bitline.mjs';
+import {draw_mark, ink_on, kind_of_answer, kind_of_entry, KINDS} from './look.mjs';
 import {first_from} from './rows.mjs';
 
 export const GUTTER = 200, RULER = 24;
@@ -10,16 +11,19 @@ const HEIGHT = {
   usage: 38,
   id: 24,
   list: 38,
-  units: 38
+  units: 38,
+  fold: 24
 },
-      GAP = 4, HEAD = 15, FONT = '12px system-ui, "DejaVu Sans", sans-serif', MARK = 8;
+      GAP = 4, BIT = 9, HEAD = 15, FONT = '12px system-ui, "DejaVu Sans", sans-serif', MARK = 8;
 
 /** Gives each row its place from the top; the height of all. */
 export function lay_out(rows) {
   let y = RULER + 4;
   for (const row of rows) {
     row.y = y;
-    row.h = HEIGHT[row.kind];
+    row.h = HEIGHT[row.kind] + (row.bit ? BIT : 0);
+    // What touches a row that isn't shown is drawn to the row that it is behind.
+    for (const hidden of row.hidden ?? []) Object.assign(hidden, {y, h: row.h});
     y += row.h + GAP;
   }
   return y + 8;
@@ -59,7 +63,9 @@ export class Picture {
     this.gutter();
   }
 
-  x(at) { return GUTTER + at * this.view.zoom - this.view.left; }
+  x(at) {
+    return GUTTER + at * this.view.zoom - this.view.left;
+  }
 
   seen_rows() {
     return this.score.rows.filter(
@@ -80,7 +86,11 @@ export class Picture {
     const {pen, colours, view} = this;
     pen.fillStyle = colours.band;
     pen.fillRect(GUTTER, y, view.width - GUTTER, row.h);
-    if (row.kind === 'worker')
+    if (row.kind === 'fold')
+      this.text(
+          `of ids that no cache had, which went with their groups; a click ${row.is_open ? 'hides' : 'shows'} them`,
+          GUTTER + 8, y + row.h / 2, view.width - GUTTER - 12, colours.dim);
+    else if (row.kind === 'worker')
       this.commands(row, y);
     else if (row.kind === 'id')
       this.spans(row, y);
@@ -126,7 +136,7 @@ export class Picture {
 
   // A number over time, as an area; and below it what else its row has.
   levels(row, y) {
-    const {pen, colours, view} = this, floor = y + row.h - 2, room = row.h - 2 - HEAD,
+    const {pen, colours, view} = this, floor = y + row.h - 2 - (row.bit ? BIT : 0), room = floor - y - HEAD,
                          top = Math.max(row.most, row.limit ?? 0, 1);
     if (row.kind === 'usage') this.stages(row, y);
     if (row.closed !== null && row.closed !== undefined) this.stretch(row.closed, Infinity, y, row.h, colours.off);
@@ -160,7 +170,24 @@ export class Picture {
     pen.fill();
     if (row.kind === 'usage') this.stage_names(row, y);
     if (row.limit !== null && row.limit !== undefined) this.limit(height(row.limit));
+    if (row.bit) this.bit(row, y + row.h - BIT / 2);
     if (row.entries) this.entries(row, y);
+  }
+
+  // The list's bit; where it is lost, the word stands above the end of the line.
+  bit(row, y) {
+    const {pen, view, colours} = this;
+    for (const {from, to, state} of row.bit) {
+      if (to < this.from || from > this.to) continue;
+      this.drawn += 1;
+      const left = Math.max(GUTTER, this.x(from)), right = Math.min(view.width, this.x(to));
+      draw_bit(pen, state, left, right, y, colours);
+      const word = 'bit lost', wide = pen.measureText(word).width;
+      if (state !== 'lost' || right - GUTTER < wide + 8) continue;
+      pen.fillStyle = colours.paper;
+      pen.fillRect(right - wide - 8, y - 21, wide + 8, 16);
+      this.text(word, right - wide - 4, y - 13, wide + 4, colours.lost);
+    }
   }
 
   limit(y) {
@@ -311,6 +338,14 @@ export class Picture {
     pen.fillRect(0, RULER - 1, view.width, 1);
   }
 
+  // A name that is too long loses its start: the end tells the cache.
+  fitted(text, width) {
+    if (this.pen.measureText(text).width <= width) return text;
+    let from = 1;
+    while (from < text.length - 1 && this.pen.measureText(`…${text.slice(from)}`).width > width) from += 1;
+    return `…${text.slice(from)}`;
+  }
+
   // The names of the rows, before all else.
   gutter() {
     const {pen, view, colours} = this;
@@ -327,10 +362,13 @@ export class Picture {
           row.most === undefined ?
               '' :
               `${row.most}${row.limit !== null && row.limit !== undefined ? ` of ${row.limit}` : ''}`,
-          row.kind === 'title' ? colours.dim : colours.ink
+          row.lost                                        ? colours.lost :
+              row.kind === 'title' || row.kind === 'fold' ? colours.dim :
+                                                            colours.ink
         ];
         const wide = value ? pen.measureText(value).width + 8 : 0;
-        this.text(row.label, is_here ? 16 : 10, y, GUTTER - 18 - wide, colour);
+        const label = row.kind === 'fold' ? `${row.is_open ? '−' : '+'} ${row.label}` : row.label;
+        this.text(this.fitted(label, GUTTER - 20 - wide), is_here ? 16 : 10, y, GUTTER - 18 - wide, colour);
         if (is_here) draw_mark(pen, 'diamond', 9, y, 7, colours.ink);
         if (value) {
           pen.fillStyle = colours.dim;

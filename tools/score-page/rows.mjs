@@ -1,5 +1,7 @@
 // What the picture shows of a run: its commands with their steps, and a row for each worker, group, id, list and pool.
 
+import {bit_spans} from './bits.mjs';
+
 /** The first place in a rising array whose value isn't below `value`. */
 export function first_from(values, value) {
   let low = 0, high = values.length;
@@ -13,7 +15,10 @@ export function first_from(values, value) {
   return low;
 }
 
-/** The rows of a run from top to bottom, its commands, and which row a step touches besides its worker's. */
+/**
+ * The rows of a run from top to bottom, its commands, and which row a step touches besides its worker's. The lists of ids that no
+ * cache ever had are behind one row, `fold`, which has them as `hidden`.
+ */
 export function rows_of(run) {
   const {report, row} = run, commands = commands_of(run), rows = [];
   const title = label => rows.push({kind: 'title', label});
@@ -29,14 +34,33 @@ export function rows_of(run) {
   const tree = grouped(row, step => (step.on === 'tree' ? step.group : undefined));
   report.groups.forEach(
       (path, group) => rows.push(usage_row(run, path, group, uses.get(group) ?? [], tree.get(group) ?? [])));
-  title('ids: registrations');
+  title('caches: registrations');
   const pool = grouped(row, step => (step.on === 'pool' ? step.id : undefined));
   for (const [id, steps] of [...pool].sort((one, other) => one[0] - other[0])) rows.push(id_row(run, id, steps));
-  title('lists: objects');
-  for (const list of report.lists) rows.push(list_row(run, list));
+  title('lists: objects and bits');
+  const lists = list_rows(run);
+  rows.push(...lists.filter(list => pool.has(list.id)));
+  const hidden = lists.filter(list => !pool.has(list.id));
+  if (hidden.length) rows.push(fold_row(hidden));
   if (report.units.length) title('pools: free units');
   for (const units of report.units) rows.push(units_row(run, units));
-  return {rows, commands, touched: touches(rows)};
+  return {rows, commands, touched: touches([...rows, ...hidden])};
+}
+
+const fold_row = hidden => ({
+  kind: 'fold',
+  label: `${hidden.length} list${hidden.length === 1 ? '' : 's'} of no cache`,
+  hidden,
+  is_open: false,
+  moments: new Int32Array(0)
+});
+
+/** Shows or hides the rows behind a row: the rows of the picture from then on. */
+export function toggled(rows, fold) {
+  fold.is_open = !fold.is_open;
+  if (!fold.is_open) return rows.filter(row => !fold.hidden.includes(row));
+  const at = rows.indexOf(fold) + 1;
+  return [...rows.slice(0, at), ...fold.hidden, ...rows.slice(at)];
 }
 
 function grouped(steps, name_of) {
@@ -123,26 +147,47 @@ function id_row(run, id, steps) {
         {from: step.at, dying: step.kind === 'unregistered', cache: run.report.caches[step.cache]};
   }
   if (live) spans.push({...live, to: run.row.length});
-  return {kind: 'id', id, label: `id ${id}`, spans, moments: Int32Array.from(steps, step => step.at)};
+  return {
+    kind: 'id',
+    id,
+    label: `${run.words.caches_of(id).join(', ')} (id ${id})`,
+    spans,
+    moments: Int32Array.from(steps, step => step.at)
+  };
 }
 
-function list_row(run, list) {
+// The rows of the lists, named by group and cache; by the id too, where two would have one name.
+function list_rows(run) {
+  const spans = bit_spans(run), lost = new Map(run.lost.map(one => [one.place, one]));
+  const bits = grouped(run.row, step => (step.on === 'set' || step.on === 'clear' ? step.list : undefined));
+  const rows = run.report.lists.map(list => list_row(run, list, bits)), count = new Map();
+  for (const {label} of rows) count.set(label, (count.get(label) ?? 0) + 1);
+  for (const row of rows) {
+    if (count.get(row.label) > 1) row.label += ` (id ${row.id})`;
+    row.bit = run.words.caches_of(row.id).length ? spans.get(row.name) ?? null : null;
+    row.lost = lost.get(row.name) ?? null;
+  }
+  return rows;
+}
+
+function list_row(run, list, bits) {
   const name = `${list.id} ${list.node} ${list.group}`, entries = run.lists.get(name), {lengths} = run.played.get(name);
   const level = {
     at: Int32Array.from(entries, step => step.at),
     value: Int32Array.from(lengths.subarray(1)),
     most: Math.max(...chunked_most(lengths))
   };
-  const last = entries[entries.length - 1];
+  const last = entries[entries.length - 1], caches = run.words.caches_of(list.id).join(', ') || `id ${list.id}`,
+        own = Int32Array.from(bits.get(name) ?? [], step => step.at);
   return {
     kind: 'list',
     name,
     ...list,
-    label: `${run.report.groups[list.group]} · node ${list.node} · id ${list.id}`,
+    label: `${run.report.groups[list.group]} · ${caches}${run.report.nodes > 1 ? ` · node ${list.node}` : ''}`,
     entries,
     ...level,
     closed: last.kind === 'closed' ? last.at : null,
-    moments: level.at
+    moments: Int32Array.from([...level.at, ...own]).sort()
   };
 }
 
@@ -175,7 +220,7 @@ function units_row(run, units) {
 }
 
 const GROUPS = ['use', 'tree', 'word', 'walk', 'map'], IDS = ['pool', 'lookup', 'wait', 'load'],
-      LISTS = ['list', 'count', 'set', 'clear', 'shut'];
+      LISTS = ['list', 'count', 'set', 'clear', 'shut', 'take', 'give', 'carry'];
 
 function touches(rows) {
   const by_kind = (kind, part) => new Map(rows.filter(row => row.kind === kind).map(row => [row[part], row]));
@@ -184,7 +229,7 @@ function touches(rows) {
   return step => {
     if (GROUPS.includes(step.on)) return groups.get(step.group);
     if (IDS.includes(step.on)) return ids.get(step.id);
-    if (LISTS.includes(step.on)) return lists.get(step.list);
+    if (LISTS.includes(step.on)) return lists.get(step.list) ?? units.get(step.list);
     return step.on === 'units' || step.on === 'unitscount' ? units.get(step.list) : undefined;
   };
 }

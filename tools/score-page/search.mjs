@@ -9,7 +9,8 @@ export function search(score, words) {
 }
 
 function texts_of(score) {
-  const rows = score.rows.filter(row => row.kind !== 'title')
+  const rows = score.rows.flatMap(row => (row.hidden && !row.is_open ? [row, ...row.hidden] : [row]))
+                   .filter(row => row.kind !== 'title' && row.kind !== 'fold')
                    .map(row => ({
                           row,
                           command: null,

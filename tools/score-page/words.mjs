@@ -15,6 +15,25 @@ export class Words {
     return `the list of ${this.group(group)}, node ${node}, id ${id}`;
   }
 
+  /** The caches that an id had in a run, in order and each once. */
+  caches_of(id) {
+    const had = this.report.pool.filter(entry => entry.kind === 'registered' && entry.id === id);
+    return [...new Set(had.map(entry => this.report.caches[entry.cache]))];
+  }
+
+  /** Who had each id from which step on, once the steps stand in a row. */
+  turns(row) {
+    this.had = row.filter(step => step.on === 'pool' && step.kind === 'registered');
+  }
+
+  /** A place by its group and the cache that has the id at a step, as a bit is named. */
+  bit(name, at = Infinity) {
+    const [id, node, group] = name.split(' ').map(Number), caches = this.caches_of(id);
+    const now = this.had?.filter(step => step.id === id && step.at <= at).at(-1);
+    const cache = now ? this.report.caches[now.cache] : caches.length ? caches.join(' or ') : `id ${id}`;
+    return `${this.group(group)}, ${cache}${this.report.nodes > 1 ? `, node ${node}` : ''}`;
+  }
+
   pool(name) {
     const [pool, node] = name.split(' ').map(Number);
     return `the pool ${this.report.pools[pool]} on node ${node}`;
@@ -26,7 +45,7 @@ export class Words {
     const seen = bits ? `its bit is clear (line ${bits.line}: bit ${id & 63} of ${bits.bits})` :
                         'the report has no line of its bit';
     return `A bit is lost: ${what}, holds ${plural(objects, 'object')} at the end (line ${line}), and ${seen}. ` +
-        `No walk of ${this.group(group)} asks ${this.report.caches[cache]} for them.`;
+        `No walk of ${this.group(group)} asks ${this.report.caches[cache]} for ${objects === 1 ? 'it' : 'them'}.`;
   }
 
   /** The place of a deferred word, of a list or of a pool. */
@@ -106,8 +125,8 @@ const TELLS = {
   lookup: s => `looks up the id ${s.id} (lookup ${s.number})${s.outcome ? `: ${OUTCOME[s.outcome]}` : ''}`,
   count: (s, w) => `counts ${w.place(s.list)} after ${s.entries} ${number_of(s.entries)}`,
   unitscount: (s, w) => `counts ${w.pool(s.list)} after ${s.entries} ${number_of(s.entries)}`,
-  set: (s, w) => `sets the bit of ${w.place(s.list)}`,
-  clear: (s, w) => `clears the bit of ${w.place(s.list)}`,
+  set: (s, w) => `sets the bit of ${w.bit(s.list, s.at)}`,
+  clear: (s, w) => `clears the bit of ${w.bit(s.list, s.at)}`,
   load: s => `looks at the id ${s.id} again, which is ${s.live ? 'live now' : 'still not live'}`,
   shut: (s, w) => `finds ${w.place(s.list)} closed`,
   poolseen: s => `sees ${plural(s.entries, 'entry', 'entries')} in the journal of registrations`,

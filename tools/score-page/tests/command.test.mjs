@@ -2,12 +2,13 @@
 
 import assert from 'node:assert/strict';
 import {spawnSync} from 'node:child_process';
-import {mkdtempSync, readFileSync, readdirSync, rmSync, writeFileSync} from 'node:fs';
+import {mkdtempSync, readdirSync, readFileSync, rmSync, writeFileSync} from 'node:fs';
 import {tmpdir} from 'node:os';
 import {join} from 'node:path';
 import {after, test} from 'node:test';
 import {fileURLToPath} from 'node:url';
-import {EXAMPLES, example} from './cases.mjs';
+
+import {example, EXAMPLES} from './cases.mjs';
 
 const tools = fileURLToPath(new URL('../../', import.meta.url)), here = fileURLToPath(new URL('./', import.meta.url));
 const run = (tool, words, input) => {
@@ -72,24 +73,26 @@ test('a script stands before its report, of several pairs too', () => {
       ['first', 'limit', 'offline'].map(name => `${name}.report: an order of steps was found`).concat(''));
   const [status, said] = checked([path('limit.script'), ...pair('first')]);
   assert.equal(status, 2);
-  assert.match(said, /^first\.report: an order .*\ntools\/score: limit\.script: a script without its report; SCRIPT comes before/m);
+  assert.match(
+      said,
+      /^first\.report: an order .*\ntools\/score: limit\.script: a script without its report; SCRIPT comes before/m);
   assert.match(checked([path('limit.script'), path('first.report')])[1], /The report is not of this script/);
 });
 
 test('a script with its report behind it is a pair by itself', () => {
   const {script, report} = example('first');
-  assert.deepEqual(checked([file('both.input', script + report)]), [0, 'both.input: an order of its 10 steps was found\n']);
+  assert.deepEqual(
+      checked([file('both.input', script + report)]), [0, 'both.input: an order of its 10 steps was found\n']);
   assert.match(run('score', ['-'], script + report).stdout, /^<!doctype html>/);
 });
 
 test('what can\'t be served is told and skipped, and the others are served', () => {
   const served = path('first.report'), line = /^first\.report: an order of its 10 steps was found$/m;
   for (const [name, text, status, why] of [
-         ['refused.report', 'refused 13 UnknownWord\n', 2, /what the program writes of a script that it refuses/],
-         ['empty', '', 2, /the file is empty/], ['page', '# Examples\n', 2, /this one is "# Examples"/],
-         ['marked.script', '\ufeffshrinkers 1\n', 2, /neither a script/],
-         ['alone.script', example('first').script, 2, /a script without its report/]
-  ]) {
+           ['refused.report', 'refused 13 UnknownWord\n', 2, /what the program writes of a script that it refuses/],
+           ['empty', '', 2, /the file is empty/], ['page', '# Examples\n', 2, /this one is "# Examples"/],
+           ['marked.script', '\ufeffshrinkers 1\n', 2, /neither a script/],
+           ['alone.script', example('first').script, 2, /a script without its report/]]) {
     const [got, said] = checked([served, file(name, text)]);
     assert.equal(got, status, name);
     assert.match(said, line);
@@ -123,7 +126,7 @@ test('a lost bit is told with its list and its lines, and is drawn', () => {
   assert.deepEqual(checked(words), [
     1,
     'lost.report: A bit is lost: the list of /host, node 0, cache dentry (id 0), holds 1 object at the end (line 56), and its ' +
-        'bit is clear (line 79: bit 0 of 0000000000000002). No walk of /host asks dentry for them.\n'
+        'bit is clear (line 79: bit 0 of 0000000000000002). No walk of /host asks dentry for it.\n'
   ]);
   const page = run('score', words);
   assert.equal(page.status, 1);

@@ -7,9 +7,11 @@ import {tmpdir} from 'node:os';
 import {join} from 'node:path';
 import {after, before, test} from 'node:test';
 import {fileURLToPath} from 'node:url';
+
 import {page_of} from '../bundle.mjs';
+
 import {Browser, chromium} from './browser.mjs';
-import {EXAMPLES, example, reports_of, second_form} from './cases.mjs';
+import {example, EXAMPLES, reports_of, second_form} from './cases.mjs';
 import {many} from './many.mjs';
 
 const path = chromium(), options = path ? {} : {skip: 'no Chromium here'};
@@ -81,17 +83,17 @@ test('pointing at a list shows what it held at that moment, and a click keeps it
   await open(example('offline'));
   const [first, last] = await browser.value(
       '(() => { const { at } = page.score.rows.find(row => row.name === "0 0 1"); return [at[1], at[2]]; })()');
-  await browser.move(...await place('/a · node 0 · id 0', first));
+  await browser.move(...await place('/a · dentry', first));
   const held = await panel();
-  assert.match(held, /list of \/a · node 0 · id 0, after step/);
+  assert.match(held, /list of \/a · dentry, after step/);
   assert.match(held, /holds 2 objects after 2 of 3 entries/);
   assert.match(held, /k1\s+=v1\s+\/a\/b\s+0\.0/);
   assert.match(held, /k4\s+=v4\s+\/a\s+1\.1/);
   assert.match(held, /worker 1, command 1/, 'the command that made the entry');
-  await browser.click(...await place('/a · node 0 · id 0', last));
+  await browser.click(...await place('/a · dentry', last));
   await browser.move(1390, 790);
   assert.match(await panel(), /holds 0 objects after 3 of 3 entries/);
-  assert.deepEqual(await cursor(), ['/a · node 0 · id 0', last]);
+  assert.deepEqual(await cursor(), ['/a · dentry', last]);
 });
 
 test('arrows go from step to step and from worker to worker, and on to the other rows', options, async () => {
@@ -134,8 +136,8 @@ test('arrows go from step to step and from worker to worker, and on to the other
 
 test('the keys tell the same as the pointer', options, async () => {
   await open(example('limit'));
-  const label = '/a · node 0 · id 0',
-        moments = await browser.value(`[...page.score.rows.find(row => row.label === "${label}").at]`);
+  const label = '/a · dentry',
+        moments = await browser.value(`[...page.score.rows.find(row => row.label === "${label}").moments]`);
   const rows = await browser.value('page.score.rows.filter(row => row.kind !== "title").map(row => row.label)');
   for (let down = 0; down <= rows.indexOf(label); down++) await browser.key('ArrowDown');
   await browser.key('Home');
@@ -147,7 +149,7 @@ test('the keys tell the same as the pointer', options, async () => {
     await browser.move(1390, 790);
     await browser.key('ArrowRight');
   }
-  assert.match(await browser.value('document.getElementById("said").textContent'), /a · node 0 · id 0, step \d+: /);
+  assert.match(await browser.value('document.getElementById("said").textContent'), /a · dentry, step \d+: /);
 });
 
 test('plus and minus zoom around the step that is pointed at, nought shows all', options, async () => {
@@ -215,6 +217,71 @@ test('who lost the race with an offline is found by one word', options, async ()
       text,
       /Its object: moved to the list of \/, node 0, id 0 at step \d+, then at the end on the list of \/, node 0, id 0\./);
 });
+
+const full = 'bit 0 1 0000000000000003', lost = 'bit 0 1 0000000000000002';
+
+test('a lost bit is told above the picture, and its list is red', options, async () => {
+  const {script, report} = example('container-leaves');
+  assert.ok(report.includes(full));
+  await open({name: 'lost', script, report: report.replace(full, lost)});
+  assert.match(
+      await browser.value('document.getElementById("faults").innerText'),
+      /^A bit is lost: the list of \/host, node 0, cache dentry/);
+  const red = () => browser.value(`(() => {
+    const canvas = page.picture.canvas, {data} = canvas.getContext('2d').getImageData(0, 0, canvas.width, canvas.height);
+    let count = 0;
+    for (let at = 0; at < data.length; at += 4) if (data[at] === 0xd0 && data[at + 1] === 0x02 && data[at + 2] === 0x1b) count += 1;
+    return count; })()`);
+  assert.ok(await red() > 200, 'red on the picture');
+  await browser.value('document.querySelector("#faults button").click()');
+  await browser.settle();
+  assert.equal((await cursor())[0], '/host · dentry');
+  assert.match(await panel(), /^list of \/host · dentry, after step[^]*A bit is lost/);
+  await open(example('container-leaves'));
+  assert.equal(await browser.value('document.getElementById("faults").hidden'), true);
+  assert.equal(await red(), 0);
+});
+
+test('the bit of a list is drawn and told, and setting it is a step', options, async () => {
+  await open(example('container-leaves'));
+  const row = 'page.score.rows.find(row => row.label === "/host · dentry")';
+  const at = await browser.value('page.run.row.find(step => step.on === "set" && step.list === "0 0 1").at');
+  assert.deepEqual(await browser.value(`${row}.bit.map(span => span.state)`), ['clear', 'set']);
+  assert.equal(await browser.value(`${row}.bit[1].from`), at);
+  await browser.value(`page.go(${row}, ${at})`);
+  const set = await panel();
+  assert.match(set, /The bit is set: a walk of the group asks the cache/);
+  assert.match(set, /sets the bit of \/host, dentry/);
+  await browser.value(`page.go(${row}, ${at - 1})`);
+  assert.match(await panel(), /The bit is clear/);
+});
+
+test('the lists of ids that no cache had are behind one row', options, async () => {
+  await open(example('offline'));
+  assert.ok(await browser.value('page.score.rows.every(row => row.kind !== "fold")'));
+  await open({name: 'fold', report: unregistered(), script: ''});
+  const lists = () => browser.value('page.score.rows.filter(row => row.kind === "list").map(row => row.label)');
+  assert.deepEqual(await lists(), ['/ · c', '/a · c']);
+  await browser.value('page.toggle(page.score.rows.find(row => row.kind === "fold"))');
+  assert.deepEqual(await lists(), ['/ · c', '/a · c', '/ · id 1', '/a · id 1']);
+  await browser.key('End');
+  for (let down = 0; down < 20; down++) await browser.key('ArrowDown');
+  assert.equal((await cursor())[0], '/a · id 1');
+  await browser.value('page.toggle(page.score.rows.find(row => row.kind === "fold"))');
+  await browser.keys('/', ...'id 1', 'Enter');
+  assert.equal((await cursor())[0], '/ · id 1', 'a hidden row that is found is shown');
+  assert.deepEqual(browser.errors(), []);
+});
+
+// A group that went offline, with lists of an id that no cache had.
+function unregistered() {
+  const moved = id => [`list ${id} 0 0`, 'moved 1 0', `list ${id} 0 1`, 'closed'];
+  return [
+    'report 1', 'size 1 2', 'group 0 /', 'group 1 /a', 'cache 0 c', 'pool 0 registered 0 0 0', 'tree 0 begin 1',
+    'tree 1 done 1', 'reply 0 0 done 1 0 0', ...moved(0), ...moved(1), 'bit 0 1 0000000000000000', 'lookups 0 0',
+    'lookups 1 0', 'total 0 0 0 1 0', 'end', ''
+  ].join('\n');
+}
 
 test('a report that is refused says why, and another is opened after it', options, async () => {
   await open(example('first'));

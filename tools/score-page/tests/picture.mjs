@@ -13,7 +13,7 @@ const folder = mkdtempSync(join(tmpdir(), 'score-picture-')), file = join(folder
       one = example('offline');
 writeFileSync(file, page_of(one.name, one.report, one.script));
 const browser = await Browser.start(chromium());
-await browser.size(1240, 560);
+await browser.size(1240, 590);
 await browser.open(`file://${file}`);
 const at = await browser.value('page.score.commands.get("0.1").steps.find(step => step.kind === "moved").at');
 await browser.value(`page.go(page.score.rows.find(row => row.label === 'worker 0'), ${at})`);
