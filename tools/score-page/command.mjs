@@ -1,13 +1,16 @@
-// The command line: pages of reports, and whether reports have an order.
+// The command line: pages and traces of reports, and whether reports have an order.
 
 import {mkdirSync, writeFileSync} from 'node:fs';
 
 import {page_of} from './bundle.mjs';
 import {read_run} from './check.mjs';
 import {runs_of} from './files.mjs';
+import {trace_of} from './trace.mjs';
 
 const USAGE = `usage: tools/score [SCRIPT] REPORT > PAGE.html
        tools/score -o FOLDER [SCRIPT] REPORT [[SCRIPT] REPORT ..]
+       tools/score --json [SCRIPT] REPORT > TRACE.json
+       tools/score --json -o FOLDER [SCRIPT] REPORT [[SCRIPT] REPORT ..]
        tools/score --check [SCRIPT] REPORT [[SCRIPT] REPORT ..]
 A script comes before its report; a file may also be a script with its report behind it, and - is standard input.
 `;
@@ -35,31 +38,32 @@ const open_places = open =>
 
 const name_of = path => (path === '-' ? 'a report' : path.replace(/^.*\//, '').replace(/\.(report|input)$/, ''));
 
-// Writes the page of a report, to a file of the folder or to standard output; the status. A fault is told, and drawn too.
-function draw({path, report, script}, folder) {
-  const run = read_run(report, script);
+// Writes the page or the trace of a report, to a file of the folder or to standard output; the status. A fault is told, and the
+// report is drawn all the same.
+function draw({path, report, script}, {json, folder}) {
+  const run = read_run(report, script), name = name_of(path);
   if (run.error) {
     process.stderr.write(`${path}: ${run.error}\n`);
     return 1;
   }
   for (const fault of run.faults) process.stderr.write(`${path}: ${fault.words}\n`);
-  const page = page_of(name_of(path), report, script);
+  const text = json ? trace_of(name, run) : page_of(name, report, script);
   if (folder === null)
-    process.stdout.write(page);
+    process.stdout.write(text);
   else {
-    const file = `${folder}/${name_of(path)}.html`;
-    writeFileSync(file, page);
+    const file = `${folder}/${name}.${json ? 'json' : 'html'}`;
+    writeFileSync(file, text);
     process.stdout.write(`${file}\n`);
   }
   return run.faults.length ? 1 : 0;
 }
 
-// What the words ask for: whether to check, the folder for pages or null, and the paths.
+// What the words ask for: whether to check or to write a trace, the folder for files or null, and the paths.
 function asked_by(words) {
-  const asked = {check: false, folder: null, paths: []};
+  const asked = {check: false, json: false, folder: null, paths: []};
   for (let at = 0; at < words.length; at++) {
-    if (words[at] === '--check')
-      asked.check = true;
+    if (words[at] === '--check' || words[at] === '--json')
+      asked[words[at].slice(2)] = true;
     else if (words[at] === '-o' && at + 1 < words.length)
       asked.folder = words[++at];
     else if (words[at].startsWith('-') && words[at] !== '-')
@@ -68,7 +72,8 @@ function asked_by(words) {
       asked.paths.push(words[at]);
   }
   if (!asked.paths.length) throw new Ending(2, 'a REPORT is wanted');
-  if (asked.check && asked.folder !== null) throw new Ending(2, '--check draws nothing, so it takes no -o');
+  if (asked.check && (asked.json || asked.folder !== null))
+    throw new Ending(2, '--check draws nothing, so it takes neither --json nor -o');
   return asked;
 }
 
@@ -77,13 +82,13 @@ function main(words) {
     process.stdout.write(USAGE);
     return 0;
   }
-  const {check: is_check, folder, paths} = asked_by(words), {runs, wrong} = runs_of(paths);
+  const asked = asked_by(words), {folder} = asked, {runs, wrong} = runs_of(asked.paths);
   for (const {path, why} of wrong) say(`${path}: ${why}`);
   let status = Math.max(0, ...wrong.map(one => one.status));
-  if (!is_check && folder === null && runs.length > 1)
-    throw new Ending(2, 'pages of several reports take -o FOLDER, into which they are written');
+  if (!asked.check && folder === null && runs.length > 1)
+    throw new Ending(2, 'several reports take -o FOLDER, into which their files are written');
   if (folder !== null) mkdirSync(folder, {recursive: true});
-  for (const run of runs) status = Math.max(status, is_check ? check(run) : draw(run, folder));
+  for (const run of runs) status = Math.max(status, asked.check ? check(run) : draw(run, asked));
   return status;
 }
 

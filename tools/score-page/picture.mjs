@@ -340,10 +340,14 @@ export class Picture {
 
   // A name that is too long loses its start: the end tells the cache.
   fitted(text, width) {
-    if (this.pen.measureText(text).width <= width) return text;
-    let from = 1;
-    while (from < text.length - 1 && this.pen.measureText(`…${text.slice(from)}`).width > width) from += 1;
-    return `…${text.slice(from)}`;
+    const name = `${this.pen.font} ${width} ${text}`;
+    this.names ??= new Map();
+    if (!this.names.has(name)) {
+      let from = 0;
+      while (from < text.length && this.pen.measureText(from ? `…${text.slice(from)}` : text).width > width) from += 1;
+      this.names.set(name, from ? `…${text.slice(from)}` : text);
+    }
+    return this.names.get(name);
   }
 
   // The names of the rows, before all else.

@@ -26,6 +26,8 @@ function exists(path) {
   }
 }
 
+const PATIENCE = 180000;
+
 const KEYS = {
   '+': 'Equal',
   '-': 'Minus',
@@ -89,7 +91,16 @@ export class Browser {
   send(method, params = {}, session = this.session) {
     const id = ++this.last;
     this.child.stdio[3].write(JSON.stringify({id, method, params, ...(session ? {sessionId: session} : {})}) + '\0');
-    return new Promise((resolve, reject) => this.waiting.set(id, {resolve, reject}));
+    return new Promise((resolve, reject) => {
+      // A browser that says nothing ends the test, and doesn't hold it up for ever.
+      const late =
+          setTimeout(() => reject(new Error(`${method}: no answer within ${PATIENCE / 1000} seconds`)), PATIENCE);
+      const done = end => value => {
+        clearTimeout(late);
+        end(value);
+      };
+      this.waiting.set(id, {resolve: done(resolve), reject: done(reject)});
+    });
   }
 
   async size(width, height, form = 'light') {

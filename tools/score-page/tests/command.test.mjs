@@ -107,12 +107,12 @@ test('what can\'t be served is told and skipped, and the others are served', () 
 });
 
 test('other words, and files that can\'t be read, have a status of their own', () => {
-  for (const words of [[], ['--check'], ['--draw', 'x'], ['-o'], ['-o', folder], ['--check', '-o', folder, 'x']]) {
+  for (const words of [[], ['--check'], ['--draw', 'x'], ['-o'], ['-o', folder], ['--check', '-o', folder, 'x'], ['--check', '--json', 'x']]) {
     const {status, stdout, stderr} = run('score', words);
     assert.deepEqual([status, stdout], [2, ''], words.join(' '));
     assert.match(stderr, /^tools\/score: .*\nusage: /);
   }
-  assert.match(run('score', [path('first.report'), path('limit.report')]).stderr, /take -o FOLDER/);
+  assert.match(run('score', [path('first.report'), path('limit.report')]).stderr, /several reports take -o FOLDER/);
   assert.match(run('score', ['--help']).stdout, /^usage: tools\/score/);
   const missing = run('score', [join(here, 'nothing.report')]);
   assert.deepEqual([missing.status, missing.stdout], [3, '']);
