@@ -24,8 +24,8 @@ class Case:
         self.on = [number for number, cache in enumerate(script.caches) if cache.on]
         self.of_command = {}
         for part in report.workers:
-            for name, rows in (("walks", part.walks), ("carries", part.carries), ("plain", part.plain), ("isolations", part.isolations)):
-                for row in rows:
+            for name in ("walks", "carries", "plain", "isolations"):
+                for row in getattr(part, name):
                     self.of_command.setdefault((name, row.by), []).append(row)
         self.registrations = Registrations(report)
         self.units = {}
@@ -199,6 +199,6 @@ def home(script, pool, node):
     return Place(pool, 0 if flat else node, 0)
 
 
-def falls(numbers):
-    """Where a list of numbers falls: the place of the lower one, or None."""
-    return next((at for at in range(1, len(numbers)) if numbers[at] < numbers[at - 1]), None)
+def first_apart(left, right):
+    """Where two lists first differ."""
+    return next((at for at, pair in enumerate(zip(left, right)) if pair[0] != pair[1]), min(len(left), len(right)))

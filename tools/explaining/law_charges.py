@@ -4,6 +4,7 @@ from collections import Counter
 
 from explaining.case import Break
 from explaining.report import Place
+from explaining.shown import lower
 
 TITLE = "each group's charges and uncharges are one history, they are those of the commands, and they leave what is listed"
 DEFERRED_TITLE = "each deferred word is what passes and carries gave less what they took"
@@ -66,7 +67,11 @@ def of_tree(case):
     for number, entry in enumerate(case.report.tree):
         told = tree.wrong(entry)
         if told:
-            yield Break("tree", f"Entry {number} of the journal of the tree, `{entry.kind}` of {case.group(entry.group)}: {told}", [entry.line])
+            yield Break(
+                "tree",
+                f"Entry {number} of the journal of the tree, `{entry.kind}` of {case.group(entry.group)}: {lower(told)}",
+                [entry.line],
+            )
         tree.add(entry)
 
 
@@ -79,9 +84,17 @@ def of_histories(case):
         usage = 0
         for number, use in enumerate(uses):
             if use.operation != number:
-                yield Break("histories", f"The operations of {case.group(group)} are numbered from 0, and this one is {number}.", [use.line])
+                yield Break(
+                    "histories", f"The operations of {case.group(group)} are numbered from 0, and this one is {number}.",
+                    [use.line],
+                )
             if use.found != usage:
-                yield Break("histories", f"Operation {number} of {case.group(group)} says that it found a usage of {use.found}, and those before it leave {usage}.", [use.line])
+                yield Break(
+                    "histories",
+                    f"Operation {number} of {case.group(group)} says that it found a usage of {use.found}, and those before"
+                    f" it leave {usage}.",
+                    [use.line],
+                )
             usage += 1 if use.up else -1
 
 
@@ -91,7 +104,12 @@ def of_taken_back(case):
         limit = case.limit(group)
         for at, use in enumerate(uses if limit is not None else ()):
             if use.up and use.found >= limit and (at + 1 >= len(uses) or uses[at + 1].up):
-                yield Break("taken_back", f"This charge of {case.group(group)} found a usage of {use.found}, its limit is {limit}, and its command doesn't take it back by its next operation there.", [use.line])
+                yield Break(
+                    "taken_back",
+                    f"This charge of {case.group(group)} found a usage of {use.found}, its limit is {limit}, and its command"
+                    " doesn't take it back by its next operation there.",
+                    [use.line],
+                )
 
 
 def of_puts(case):
@@ -103,11 +121,20 @@ def of_puts(case):
     for (by, group), uses in case.uses_by.items():
         ups = [use for use in uses if use.up]
         if len(ups) > 14:
-            yield Break("fourteen", f"{case.told_command(by).capitalize()} charges {case.group(group)} {len(ups)} times, and a put does so at most 14 times.", [ups[14].line])
+            yield Break(
+                "fourteen",
+                f"{case.told_command(by).capitalize()} charges {case.group(group)} {len(ups)} times, and a put does so at"
+                " most 14 times.",
+                [ups[14].line],
+            )
     for (by, group), uses in case.uses_by.items():
         for use, later in zip(uses, uses[1:]):
             if use.up and later.up:
-                yield Break("between", f"{case.told_command(by).capitalize()} charges {case.group(group)} twice with no uncharge between.", [later.line, use.line])
+                yield Break(
+                    "between",
+                    f"{case.told_command(by).capitalize()} charges {case.group(group)} twice with no uncharge between.",
+                    [later.line, use.line],
+                )
 
 
 def nets_due(case):
@@ -134,7 +161,12 @@ def of_nets(case):
         net = sum(1 if use.up else -1 for use in uses)
         if net != due[by, group]:
             lines = [uses[-1].line] if uses else [answer.line for answer in [case.answer(by)] if answer]
-            yield Break("nets", f"{case.told_command(by).capitalize()} charges {case.group(group)} by {net} in all, and what it added less what it freed there is {due[by, group]}.", lines)
+            yield Break(
+                "nets",
+                f"{case.told_command(by).capitalize()} charges {case.group(group)} by {net} in all, and what it added less"
+                f" what it freed there is {due[by, group]}.",
+                lines,
+            )
 
 
 def listed_below(case):
@@ -153,11 +185,21 @@ def of_final(case):
         uses = case.uses_of.get(group, ())
         usage = sum(1 if use.up else -1 for use in uses)
         if usage != listed[group]:
-            yield Break("final", f"The charges of {case.group(group)} leave a usage of {usage}, and {listed[group]} objects of it and of the groups below are listed.", [uses[-1].line] if uses else [])
+            yield Break(
+                "final",
+                f"The charges of {case.group(group)} leave a usage of {usage}, and {listed[group]} objects are listed that"
+                " were born in it or below.",
+                [uses[-1].line] if uses else [],
+            )
     for group in range(len(case.parents)):
         limit = case.limit(group)
         if limit is not None and listed[group] > limit:
-            yield Break("limits", f"{case.group(group).capitalize()} has a limit of {limit}, and {listed[group]} objects of it and of the groups below are listed.", [])
+            yield Break(
+                "limits",
+                f"{case.group(group).capitalize()} has a limit of {limit}, and {listed[group]} objects are listed that were"
+                " born in it or below.",
+                [],
+            )
 
 
 FIELDS = (of_tree, of_histories, of_taken_back, of_puts, of_nets, of_final)
@@ -190,7 +232,12 @@ def of_words(case):
         told, right = (printed[place].amount if place in printed else 0), (given[place] - taken[place]) % 2**64
         if told != right:
             line = printed[place].line if place in printed else next(iter(lines_of_deferring(case, place)), None)
-            yield Break("words", f"The deferred word at {case.place(place)} is {told:,}. Passes and carries gave {given[place]:,} there and took {taken[place]:,}, which leaves {right:,}.", [line] if line else [])
+            yield Break(
+                "words",
+                f"The deferred word at {case.place(place)} is {told:,}. Passes and carries gave {given[place]:,} there and"
+                f" took {taken[place]:,}, which leaves {right:,}.",
+                [line] if line else [],
+            )
 
 
 def lines_of_deferring(case, place):
@@ -206,7 +253,12 @@ def of_carries(case):
         if not case.is_there(carry.place):
             yield Break("carries", f"A carry from {case.place(carry.place)}, which isn't there.", [carry.line])
         if command is None or command.verb != "offline" or command.words["group"] != carry.place.group:
-            yield Break("carries", f"A carry from a place of {case.group(carry.place.group)} is made by an `offline` of that group, and this is of {case.told_command(carry.by)}.", [carry.line])
+            yield Break(
+                "carries",
+                f"A carry from a place of {case.group(carry.place.group)} is made by an `offline` of that group, and this is"
+                f" of {case.told_command(carry.by)}.",
+                [carry.line],
+            )
         if answer.kind not in ("offlined", "alreadydone"):
             yield Break("carries", "An `offline` that carried is answered `done` or `alreadydone`.", [carry.line, answer.line])
 
@@ -232,7 +284,12 @@ def of_bits(case):
             cache = case.script.caches[case.registrations.decl(place.id, count)].name.decode()
             objects = f"{len(left)} object{'s' if len(left) > 1 else ''}"
             lines = [row.line if row else None, case.line_of(place)]
-            yield Break("set", f"The bit of id {place.id} (cache {cache}) in {case.group(place.group)} on node {place.node} is clear, and the list there has {objects}: no walk of that group finds them.", [line for line in lines if line])
+            yield Break(
+                "set",
+                f"The bit of id {place.id} (cache {cache}) in {case.group(place.group)} on node {place.node} is clear, and"
+                f" the list there has {objects}: no walk of that group finds them.",
+                [line for line in lines if line],
+            )
 
 
 BITS_FIELDS = (of_bits,)

@@ -1,6 +1,6 @@
 """L9: what an answer knew isn't older than what its worker had known before."""
 
-from explaining.case import Break, falls, group_named
+from explaining.case import Break, group_named
 from explaining.law_causes import MAY_HAVE_BEGUN, of_drained, of_registrations, of_rows, of_tree, of_walks
 
 POOL_TOLD = ("nocache", "alreadyregistered", "noid")
@@ -27,9 +27,19 @@ def of_pool(case):
         for answer in part.answers:
             for seen in pool_seen(answer):
                 if seen < most[0]:
-                    yield Break("fresh, pool", f"It knew {seen} entries of the journal of registrations, and an earlier answer of its worker knew {most[0]}.", [answer.line, most[1]])
+                    yield Break(
+                        "fresh, pool",
+                        f"The answer knew {seen} entries of the journal of registrations, and an earlier answer of its worker"
+                        f" knew {most[0]}.",
+                        [answer.line, most[1]],
+                    )
                 if made and seen <= made[0]:
-                    yield Break("fresh, pool_own", f"It knew {seen} entries of the journal of registrations, and its worker had made entry {made[0]} before.", [answer.line, made[1]])
+                    yield Break(
+                        "fresh, pool_own",
+                        f"The answer knew {seen} entries of the journal of registrations, and its worker had made entry"
+                        f" {made[0]} before.",
+                        [answer.line, made[1]],
+                    )
                 most = max(most, (seen, answer.line), key=lambda row: row[0])
             own = pool_made(answer)
             if own is not None and (made is None or own > made[0]):
@@ -41,7 +51,12 @@ def of_pool_on(case):
     for by, command, answer in case.each_answer():
         for seen in pool_seen(answer):
             if seen < len(case.on):
-                yield Break("fresh, pool_on", f"It knew {seen} entries of the journal of registrations, and {len(case.on)} caches are `on` from the start.", [answer.line])
+                yield Break(
+                    "fresh, pool_on",
+                    f"The answer knew {seen} entries of the journal of registrations, and {len(case.on)} caches are `on` from"
+                    " the start.",
+                    [answer.line],
+                )
 
 
 def shown(case, by):
@@ -59,9 +74,19 @@ def of_tree_known(case):
             if answer.kind == "haschildren":
                 seen = answer.values[1]
                 if known and seen < known[0]:
-                    yield Break("fresh, tree", f"It knew {seen} entries of the journal of the tree, and an earlier answer of its worker knew {known[0]}.", [answer.line, known[1]])
+                    yield Break(
+                        "fresh, tree",
+                        f"The answer knew {seen} entries of the journal of the tree, and an earlier answer of its worker knew"
+                        f" {known[0]}.",
+                        [answer.line, known[1]],
+                    )
                 if cited and seen <= cited[0]:
-                    yield Break("fresh, tree_shown", f"It knew {seen} entries of the journal of the tree, and its worker was shown entry {cited[0]} before.", [answer.line, cited[1]])
+                    yield Break(
+                        "fresh, tree_shown",
+                        f"The answer knew {seen} entries of the journal of the tree, and its worker was shown entry"
+                        f" {cited[0]} before.",
+                        [answer.line, cited[1]],
+                    )
                 known = (seen, answer.line)
             for entry in shown(case, (worker, number)):
                 if cited is None or entry > cited[0]:
@@ -77,7 +102,12 @@ def of_refused(case):
             command = case.command((worker, number))
             asked = group_named(command) if command and command.verb not in ("offline", "mkgroup", "isolate") else None
             if asked in offline and answer.kind not in MAY_BE_OFFLINE:
-                yield Break("fresh, refused", f"Its worker was shown before that {case.group(asked)} went offline, and the command is answered as if it were online.", [answer.line, offline[asked]])
+                yield Break(
+                    "fresh, refused",
+                    f"An earlier answer or walk of the worker shows that {case.group(asked)} went offline, and this command"
+                    " is answered as if it were online.",
+                    [answer.line, offline[asked]],
+                )
             for entry in shown(case, (worker, number)):
                 if entry < len(tree) and tree[entry].kind in ("begin", "done"):
                     offline.setdefault(tree[entry].group, answer.line)
@@ -93,7 +123,12 @@ def of_first(case):
                     continue
                 group = tree[entry].group
                 if all(by[0] == worker and number < by[1] for by in case.offlines(group, MAY_HAVE_BEGUN)):
-                    yield Break("fresh, first", f"It is shown that {case.group(group)} began to go offline, and each `offline` that may have begun it is a later command of the same worker.", [answer.line])
+                    yield Break(
+                        "fresh, first",
+                        f"The answer shows that {case.group(group)} began to go offline, and each `offline` that may have"
+                        " begun it is a later command of the same worker.",
+                        [answer.line],
+                    )
 
 
 def made_shown(command, answer):
@@ -111,7 +146,12 @@ def of_made(case):
         made = {}
         for number, answer in enumerate(part.answers):
             if answer.kind == "notmade" and answer.values[0] in made:
-                yield Break("fresh, made", f"It says that {case.group(answer.values[0])} isn't made, and an earlier answer of its worker shows that it is.", [answer.line, made[answer.values[0]]])
+                yield Break(
+                    "fresh, made",
+                    f"The answer says that {case.group(answer.values[0])} isn't made, and an earlier answer of its worker"
+                    " shows that it is.",
+                    [answer.line, made[answer.values[0]]],
+                )
             command = case.command((worker, number))
             group = made_shown(command, answer) if command else None
             if group is not None:

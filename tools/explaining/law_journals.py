@@ -1,9 +1,9 @@
 """L2: each journal is legal, they fit together, and what they leave is printed. L3: each object added is freed or listed once."""
 
-from collections import Counter
-
-from explaining.case import Break
+from explaining import readings
+from explaining.case import Break, first_apart
 from explaining.report import TENANT, Place
+from explaining.shown import lower
 
 TITLE = "each list's journal is legal, the journals fit together, and the items that they leave are printed"
 BAG_TITLE = "each object that was added was freed once or is listed once, and the totals count them"
@@ -13,7 +13,12 @@ def of_there(case):
     """there"""
     for found in case.report.lists:
         if not case.is_there(found.place):
-            yield Break("there", f"There is no list at {case.place(found.place)}: the script has {case.script.ids} ids, {case.script.nodes} nodes and {len(case.parents)} groups.", [found.line])
+            yield Break(
+                "there",
+                f"There is no list at {case.place(found.place)}: the script has {case.script.ids} ids, {case.script.nodes}"
+                f" nodes and {len(case.parents)} groups.",
+                [found.line],
+            )
 
 
 def of_legal(case):
@@ -21,16 +26,21 @@ def of_legal(case):
     for place, found in case.journals.lists.items():
         moved, closed = {}, None
         for number, entry in enumerate(found.entries):
-            told = f"The list was closed on line {closed}, and nothing may follow." if closed else of_standing(case, place, moved, entry)
+            told = (
+                f"The list was closed on line {closed}, and nothing may follow."
+                if closed else of_standing(case, place, moved, entry)
+            )
             if told:
-                yield Break("legal", f"Entry {number} of the list at {case.place(place)}: {told}", [entry.line])
+                yield Break("legal", f"Entry {number} of the list at {case.place(place)}: {lower(told)}", [entry.line])
             if entry.kind == "moved":
                 moved[entry.birth] = entry.line
             closed = entry.line if entry.kind == "closed" else closed
         wrong = case.journals.replay(place).wrong
         if wrong:
             number, told = wrong
-            yield Break("legal", f"Entry {number} of the list at {case.place(place)}: {told}.", [found.entries[number].line])
+            yield Break(
+                "legal", f"Entry {number} of the list at {case.place(place)}: {lower(told)}.", [found.entries[number].line],
+            )
 
 
 def of_standing(case, place, moved, entry):
@@ -40,7 +50,10 @@ def of_standing(case, place, moved, entry):
     if entry.kind == "moved":
         if not case.journals.is_child(place.group, entry.birth):
             return f"{case.group(entry.birth)} is no child of {case.group(place.group)}."
-        return f"The list of {case.group(entry.birth)} was moved in before, on line {moved[entry.birth]}." if entry.birth in moved else None
+        return (
+            f"The list of {case.group(entry.birth)} was moved in before, on line {moved[entry.birth]}."
+            if entry.birth in moved else None
+        )
     if entry.kind == "closed":
         if place.group == 0:
             return "The root's list is never closed."
@@ -70,11 +83,18 @@ def of_pairs(case):
         if place in case.journals.closed and place.group:
             above = Place(place.id, place.node, case.parents[place.group])
             if not any(entry.kind == "moved" and entry.birth == place.group for entry in case.journals.entries(above)):
-                yield Break("paired", f"The list at {case.place(place)} is closed, and no entry of its parent's list moves it in.", [found.entries[-1].line])
+                yield Break(
+                    "paired", f"The list at {case.place(place)} is closed, and no entry of its parent's list moves it in.",
+                    [found.entries[-1].line],
+                )
         for entry in found.entries:
             child = Place(place.id, place.node, entry.birth)
             if entry.kind == "moved" and child not in case.journals.closed:
-                yield Break("paired", f"The list at {case.place(place)} moved in that of {case.group(entry.birth)}, which isn't closed.", [entry.line])
+                yield Break(
+                    "paired",
+                    f"The list at {case.place(place)} moved in that of {case.group(entry.birth)}, which isn't closed.",
+                    [entry.line],
+                )
 
 
 def of_printed_once(case):
@@ -91,17 +111,23 @@ def of_items(case):
     for found in case.report.lists:
         left = case.journals.left(found.place)
         if left != found.items:
-            at = next((at for at, pair in enumerate(zip(left, found.items)) if pair[0] != pair[1]), min(len(left), len(found.items)))
+            at = first_apart(left, found.items)
             line = found.item_lines[at] if at < len(found.items) else found.line
             has, wanted = item_told(found.items, at), item_told(left, at)
-            yield Break("items", f"Item {at} of the list at {case.place(found.place)} is {has}, and its journal leaves {wanted} there.", [line])
+            yield Break(
+                "items", f"Item {at} of the list at {case.place(found.place)} is {has}, and its journal leaves {wanted} there.",
+                [line],
+            )
 
 
 def item_told(items, at):
     if at >= len(items):
         return "none"
     item = items[at]
-    return f"`{item.key.decode()}` of command {item.by[1]} of worker {item.by[0]}, {'marked' if item.marked else 'clean'}, {'pinned' if item.pinned else 'loose'}"
+    return (
+        f"`{item.key.decode()}` of command {item.by[1]} of worker {item.by[0]}, {'marked' if item.marked else 'clean'},"
+        f" {'pinned' if item.pinned else 'loose'}"
+    )
 
 
 def of_begun(case):
@@ -110,12 +136,17 @@ def of_begun(case):
     for place in sorted(case.journals.closed):
         if not begun.intersection(case.path(place.group)):
             line = next(entry.line for entry in case.journals.entries(place) if entry.kind == "closed")
-            yield Break("begun", f"The list at {case.place(place)} is closed, and no group at or above its own began to go offline.", [line])
+            yield Break(
+                "begun", f"The list at {case.place(place)} is closed, and no group at or above its own began to go offline.",
+                [line],
+            )
 
 
 def of_done(case):
     """done: a group that isn't there has no lists"""
     for entry in case.report.tree:
+        if entry.kind == "done" and entry.group >= len(case.parents) and readings.DONE_GROUPS_ARE_THERE:
+            yield Break("done", f"Group {entry.group} is done going offline, and it isn't there.", [entry.line])
         if entry.kind != "done" or entry.group >= len(case.parents):
             continue
         for of_id in range(case.script.ids):
@@ -123,7 +154,12 @@ def of_done(case):
                 place = Place(of_id, node, entry.group)
                 if place not in case.journals.closed:
                     lines = [entry.line, case.line_of(place)]
-                    yield Break("done", f"{case.group(entry.group).capitalize()} is done going offline, and its list at id {of_id}, node {node} isn't closed.", [line for line in lines if line])
+                    yield Break(
+                        "done",
+                        f"{case.group(entry.group).capitalize()} is done going offline, and its list at id {of_id}, node"
+                        f" {node} isn't closed.",
+                        [line for line in lines if line],
+                    )
 
 
 FIELDS = (of_there, of_legal, of_pairs, of_printed_once, of_items, of_begun, of_done)
@@ -156,7 +192,12 @@ def of_bag(case):
     for what, rows in (("freed", freed), ("listed", listed)):
         for by, line in rows:
             if by in gone:
-                yield Break("bag", f"The object of {case.told_command(by)} is {gone[by][0]} and {what}{' again' if gone[by][0] == what else ''}.", [line, gone[by][1]])
+                yield Break(
+                    "bag",
+                    f"The object of {case.told_command(by)} is {gone[by][0]} and"
+                    f" {what}{' again' if gone[by][0] == what else ''}.",
+                    [line, gone[by][1]],
+                )
             if by not in lines:
                 yield Break("bag", f"An object of {case.told_command(by)} is {what}, and none was added by it.", [line])
             gone[by] = (what, line)
@@ -170,7 +211,9 @@ def of_totals(case):
     report = case.report
     for field, told, rows in zip(("added", "freed", "listed"), (report.added, report.freed, report.listed), serials(case)):
         if told != len(rows):
-            yield Break(field, f"The total says {told:,} {field}, and by the journals it is {len(rows):,}.", [report.lines["total"]])
+            yield Break(
+                field, f"The total says {told:,} {field}, and by the journals it is {len(rows):,}.", [report.lines["total"]],
+            )
 
 
 BAG_FIELDS = (of_bag, of_totals)

@@ -1,8 +1,12 @@
 """L5: registrations follow each other as they may, each lookup's number is drawn once, and it met what the journal says."""
 
 from explaining.case import Break, decl_named
+from explaining.shown import lower
 
-TITLE = "registrations follow each other, each number of an id's lookups was drawn once, and each lookup met what the registrations say"
+TITLE = (
+    "registrations follow each other, each number of an id's lookups was drawn once, and each lookup met what the"
+    " registrations say"
+)
 
 
 def of_journal(case):
@@ -11,7 +15,7 @@ def of_journal(case):
     for number, entry in enumerate(case.report.pool):
         told = of_entry(registered, ids, decls, number, entry)
         if told:
-            yield Break("pool", f"Entry {number} of the journal of registrations: {told}", [entry.line])
+            yield Break("pool", f"Entry {number} of the journal of registrations: {lower(told)}", [entry.line])
 
 
 def of_entry(registered, ids, decls, number, entry):
@@ -43,7 +47,12 @@ def of_opened(case):
         entry = case.report.pool[number] if number < len(case.report.pool) else None
         if entry is None or (entry.kind, entry.decl, entry.id, entry.number) != ("registered", decl, number, 0):
             line = entry.line if entry else None
-            yield Break("opened", f"Cache {decl} ({case.script.caches[decl].name.decode()}) is `on`, so the journal of registrations has `pool {number} registered {decl} {number} 0`.", [line] if line else [])
+            yield Break(
+                "opened",
+                f"Cache {decl} ({case.script.caches[decl].name.decode()}) is `on`, so the journal of registrations has `pool"
+                f" {number} registered {decl} {number} 0`.",
+                [line] if line else [],
+            )
 
 
 def of_last(case):
@@ -79,11 +88,21 @@ def of_numbers(case):
             if at and rows[at - 1][0] == number:
                 yield Break("numbers", f"Lookup {number} of id {of_id} was made twice.", [line, rows[at - 1][1]])
             elif number >= lookups:
-                yield Break("numbers", f"Lookup {number} of id {of_id} is told, and the id has {lookups} lookups, by its line `lookups`.", [line])
+                yield Break(
+                    "numbers",
+                    f"Lookup {number} of id {of_id} is told, and the id has {lookups} lookups, by its line `lookups`.", [line],
+                )
             elif number != at:
-                yield Break("numbers", f"Lookup {at} of id {of_id} is told by no answer and no walk, and the id has {lookups} lookups.", [line])
+                yield Break(
+                    "numbers", f"Lookup {at} of id {of_id} is told by no answer and no walk, and the id has {lookups} lookups.",
+                    [line],
+                )
         if len(rows) < lookups:
-            yield Break("numbers", f"The line `lookups` says {lookups} lookups of id {of_id}, and {len(rows)} are told by answers and walks.", [case.lookups_line(of_id)])
+            yield Break(
+                "numbers",
+                f"The line `lookups` says {lookups} lookups of id {of_id}, and {len(rows)} are told by answers and walks.",
+                [case.lookups_line(of_id)],
+            )
 
 
 def of_met(case):
@@ -94,7 +113,10 @@ def of_met(case):
                 continue
             lies = case.registrations.met(attempt.id, attempt.number) is not None
             if attempt.is_held != lies:
-                what = "lies in a registration of the id, so it finds the cache" if lies else "lies in no registration of the id, so it is `gone`"
+                what = (
+                    "lies in a registration of the id, so it finds the cache"
+                    if lies else "lies in no registration of the id, so it is `gone`"
+                )
                 yield Break("met", f"Lookup {attempt.number} of id {attempt.id} {what}.", [attempt.line])
 
 
@@ -106,7 +128,7 @@ def of_found(case):
             continue
         told = of_find(case, decl, answer.found)
         if told:
-            yield Break("found", f"{case.told_command(by).capitalize()}: {told}", [answer.found.line])
+            yield Break("found", f"{case.told_command(by).capitalize()}: {lower(told)}", [answer.found.line])
 
 
 def of_find(case, decl, found):
@@ -117,7 +139,10 @@ def of_find(case, decl, found):
     if not registered.is_live(found.id, found.entry):
         return f"After {found.entry} entries of the journal of registrations no cache has id {found.id}."
     if registered.decl(found.id, found.entry) != decl:
-        return f"It names cache {decl}, and id {found.id} was that of cache {registered.decl(found.id, found.entry)} after {found.entry} entries."
+        return (
+            f"It names cache {decl}, and id {found.id} was that of cache {registered.decl(found.id, found.entry)} after"
+            f" {found.entry} entries."
+        )
     begun, ended = registered.begun(found.id, found.entry), registered.ended(found.id, found.entry)
     if found.number < begun:
         return f"Lookup {found.number} is before the registration, which begins at {begun}."
@@ -131,7 +156,10 @@ def of_idle(case):
     count = len(case.report.pool)
     for place in case.journals.lists:
         if case.registrations.phase(place.id, count) % 3 == 0 and case.journals.left(place):
-            yield Break("idle", f"Id {place.id} is idle at the end, and its list at {case.place(place)} has objects.", [case.line_of(place)])
+            yield Break(
+                "idle", f"Id {place.id} is idle at the end, and its list at {case.place(place)} has objects.",
+                [case.line_of(place)],
+            )
 
 
 FIELDS = (of_journal, of_opened, of_last, of_numbers, of_met, of_found, of_idle)

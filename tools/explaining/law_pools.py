@@ -5,6 +5,7 @@ from collections import Counter
 from explaining.case import Break, home
 from explaining.passes import Due, wrong_in
 from explaining.report import Place
+from explaining.shown import lower
 
 TITLE = "each unit that was released to a pool was grabbed once, was reclaimed once, or is free"
 
@@ -23,14 +24,19 @@ def of_units(case):
         if place.id >= len(script.pools) or place.node >= script.nodes:
             yield Break("units", f"There is no {pool_told(case, place)}.", [found.line])
         if home(script, place.id, place.node) != place:
-            yield Break("units", f"{pool_told(case, place).capitalize()} is flat, and keeps all its units at node 0.", [found.line])
+            yield Break(
+                "units", f"{pool_told(case, place).capitalize()} is flat, and keeps all its units at node 0.", [found.line],
+            )
         for number, entry in enumerate(found.entries):
             told = of_entry(free, entry)
             if told:
-                yield Break("units", f"Entry {number} of {pool_told(case, place)}: {told}", [entry.line])
+                yield Break("units", f"Entry {number} of {pool_told(case, place)}: {lower(told)}", [entry.line])
             free = after(free, entry)
         if found.free != free:
-            yield Break("units", f"{found.free} units are told as free of {pool_told(case, place)}, and its journal leaves {free}.", [found.line])
+            yield Break(
+                "units", f"{found.free} units are told as free of {pool_told(case, place)}, and its journal leaves {free}.",
+                [found.line],
+            )
 
 
 def after(free, entry):
@@ -42,12 +48,18 @@ def after(free, entry):
 def of_entry(free, entry):
     """What is wrong with the outcome of an entry, or None."""
     if entry.kind == "release":
-        return f"{free} units are free before it, and with {entry.number} more there are over 20,000." if free + entry.number > 20_000 else None
+        return (
+            f"{free} units are free before it, and with {entry.number} more there are over 20,000."
+            if free + entry.number > 20_000 else None
+        )
     if entry.kind == "grab":
         got = int(free > 0)
         return None if entry.number == got else f"{free} units are free before it, so it is `{'got' if got else 'bare'}`."
     right = min(entry.asked, free)
-    return None if entry.freed == right else f"{free} units are free before it and it asks for {entry.asked}, so it frees {right}, and it says {entry.freed}."
+    return (
+        None if entry.freed == right else
+        f"{free} units are free before it and it asks for {entry.asked}, so it frees {right}, and it says {entry.freed}."
+    )
 
 
 def of_once(case):
@@ -55,7 +67,9 @@ def of_once(case):
     seen = {}
     for found in case.report.units:
         if found.place in seen:
-            yield Break("once", f"The journal of {pool_told(case, found.place)} is printed twice.", [found.line, seen[found.place]])
+            yield Break(
+                "once", f"The journal of {pool_told(case, found.place)} is printed twice.", [found.line, seen[found.place]],
+            )
         seen[found.place] = found.line
 
 
@@ -67,17 +81,24 @@ def of_replies(case):
             continue
         at = home(case.script, command.words["pool"], command.words["node"])
         if answer.kind in (*wanted, "full") and Place(*answer.values[:2], 0) != at:
-            yield Break("replies", f"{case.told_command(by).capitalize()} is answered with another place than {pool_told(case, at)}.", [answer.line])
+            yield Break(
+                "replies", f"{case.told_command(by).capitalize()} is answered with another place than {pool_told(case, at)}.",
+                [answer.line],
+            )
         elif answer.kind == "full":
             told = of_full(case, at, command, answer)
             if told:
-                yield Break("replies", f"{case.told_command(by).capitalize()}, answered `full`: {told}", [answer.line])
+                yield Break("replies", f"{case.told_command(by).capitalize()}, answered `full`: {lower(told)}", [answer.line])
         elif answer.kind in wanted:
             entries, number, (kind, got) = case.units_entries(at), answer.values[2], wanted[answer.kind]
             entry = entries[number] if number < len(entries) else None
             value = command.words["units"] if kind == "release" else got
             if entry is None or (entry.kind, entry.by, entry.number) != (kind, by, value):
-                yield Break("replies", f"{case.told_command(by).capitalize()} cites entry {number} of {pool_told(case, at)}, which isn't its own.", [answer.line] + ([entry.line] if entry else []))
+                yield Break(
+                    "replies",
+                    f"{case.told_command(by).capitalize()} cites entry {number} of {pool_told(case, at)}, which isn't its own.",
+                    [answer.line] + ([entry.line] if entry else []),
+                )
 
 
 def of_full(case, at, command, answer):
@@ -87,7 +108,10 @@ def of_full(case, at, command, answer):
     if free != case.free_at(at, entries):
         return f"it says {free} units were free after {entries} entries, and {case.free_at(at, entries)} were."
     units = command.words["units"]
-    return None if free + units > 20_000 else f"with {units} more there would be {free + units} units, and a pool is full above 20,000."
+    return (
+        None if free + units > 20_000 else
+        f"with {units} more there would be {free + units} units, and a pool is full above 20,000."
+    )
 
 
 def of_cited(case):
@@ -96,7 +120,12 @@ def of_cited(case):
         for number, entry in enumerate(found.entries):
             answer = case.answer(entry.by) if entry.kind != "reclaim" else None
             if entry.kind != "reclaim" and (answer is None or answer.units_cited != (place, number)):
-                yield Break("cited", f"Entry {number} of {pool_told(case, place)} is of {case.told_command(entry.by)}, whose answer doesn't cite it.", [entry.line])
+                yield Break(
+                    "cited",
+                    f"Entry {number} of {pool_told(case, place)} is of {case.told_command(entry.by)}, whose answer doesn't"
+                    " cite it.",
+                    [entry.line],
+                )
 
 
 def of_order(case):
@@ -109,17 +138,31 @@ def of_order(case):
             if answer.units_cited:
                 number = answer.units_cited[1]
                 if before and before[0] >= number:
-                    yield Break("rise", f"The answer cites entry {number} of {pool_told(case, place)}, and an earlier answer of its worker cites entry {before[0]}.", [answer.line, before[1]])
+                    yield Break(
+                        "rise",
+                        f"The answer cites entry {number} of {pool_told(case, place)}, and an earlier answer of its worker"
+                        f" cites entry {before[0]}.",
+                        [answer.line, before[1]],
+                    )
                 last[place] = (number, answer.line)
             elif place and before and answer.values[2] <= before[0]:
-                yield Break("full", f"It knew {answer.values[2]} entries of {pool_told(case, place)}, and an earlier answer of its worker cites entry {before[0]}.", [answer.line, before[1]])
+                yield Break(
+                    "full",
+                    f"The answer knew {answer.values[2]} entries of {pool_told(case, place)}, and an earlier answer of its"
+                    f" worker cites entry {before[0]}.",
+                    [answer.line, before[1]],
+                )
 
 
 def of_walks(case):
     """walks"""
     for walk in case.pool_walks:
         for field, told, line in of_walk(case, walk):
-            yield Break(f"walks, {field}", f"Walk {walk.number} of the pools by worker {walk.by[0]}, on node {walk.node}: {told}", [line] if line == walk.line else [line, walk.line])
+            yield Break(
+                f"walks, {field}",
+                f"Walk {walk.number} of the pools by worker {walk.by[0]}, on node {walk.node}: {lower(told)}",
+                [line] if line == walk.line else [line, walk.line],
+            )
 
 
 def of_walk(case, walk):
@@ -133,7 +176,7 @@ def of_walk(case, walk):
         if found.run:
             told = of_pass(case, place, pool, walk, found.run)
             if told:
-                yield "passes", f"{pool_told(case, place)}: {told}", found.line
+                yield "passes", f"{pool_told(case, place)}: {lower(told)}", found.line
             if found.run.ending == "noroom" and not (walk.answer == "memory" and tries == number + 1):
                 yield "cut", "a pass that ended for want of room is the last try of a walk that ended by `memory`.", found.line
     freed = sum(found.run.freed for found in walk.tries if found.run)
@@ -143,13 +186,29 @@ def of_walk(case, walk):
 
 def of_try(case, place, pool, found):
     if found.version > len(case.units_entries(place)):
-        yield "counts", f"it counts {pool_told(case, place)} after {found.version} entries, and its journal has {len(case.units_entries(place))}.", found.line
+        yield (
+            "counts",
+            f"it counts {pool_told(case, place)} after {found.version} entries, and its journal has"
+            f" {len(case.units_entries(place))}.",
+            found.line,
+        )
     elif found.len != case.free_at(place, found.version):
-        yield "counts", f"it counts {found.len} units of {pool_told(case, place)} after {found.version} entries, and {case.free_at(place, found.version)} were free.", found.line
+        yield (
+            "counts",
+            f"it counts {found.len} units of {pool_told(case, place)} after {found.version} entries, and"
+            f" {case.free_at(place, found.version)} were free.",
+            found.line,
+        )
     if found.kind == "skip" and not 0 < found.len <= pool.floor:
-        yield "kinds", f"it skips {found.len} units, and {pool_told(case, place)} skips from 1 up to its floor of {pool.floor}.", found.line
+        yield (
+            "kinds", f"it skips {found.len} units, and {pool_told(case, place)} skips from 1 up to its floor of {pool.floor}.",
+            found.line,
+        )
     if found.kind == "ran" and found.len <= pool.floor:
-        yield "kinds", f"it passes {found.len} units, and {pool_told(case, place)} skips up to its floor of {pool.floor}.", found.line
+        yield (
+            "kinds", f"it passes {found.len} units, and {pool_told(case, place)} skips up to its floor of {pool.floor}.",
+            found.line,
+        )
 
 
 def of_pass(case, place, pool, walk, run):
@@ -163,11 +222,18 @@ def of_pass(case, place, pool, walk, run):
         return "the pass says that an ask found the list closed, and a pool has none."
     if run.ending == "stop" or (run.ending == "worn" and len(entries) != 2**31):
         return f"a pass of a pool doesn't end by `{run.ending}` here: the pool's journal has {len(entries)} entries."
-    reclaims = [(number, entry) for number, entry in enumerate(entries) if entry.kind == "reclaim" and entry.by == (walk.by[0], walk.number)]
+    own = (walk.by[0], walk.number)
+    reclaims = [(number, entry) for number, entry in enumerate(entries) if entry.kind == "reclaim" and entry.by == own]
     if [entry.asked for _, entry in reclaims] != [due.size] * run.asks:
-        return f"the pass made {run.asks} asks of {due.size} units, and its `reclaim` entries there are {len(reclaims)}{', with other sizes' if len(reclaims) == run.asks else ''}."
+        return (
+            f"the pass made {run.asks} asks of {due.size} units, and its `reclaim` entries there are"
+            f" {len(reclaims)}{', with other sizes' if len(reclaims) == run.asks else ''}."
+        )
     if sum(entry.freed for _, entry in reclaims) != run.freed:
-        return f"the pass says that it freed {run.freed} units, and its `reclaim` entries freed {sum(entry.freed for _, entry in reclaims)}."
+        return (
+            f"the pass says that it freed {run.freed} units, and its `reclaim` entries freed"
+            f" {sum(entry.freed for _, entry in reclaims)}."
+        )
     old = next((number for number, _ in reclaims if number < run.version), None)
     return None if old is None else f"the pass counted after {run.version} entries, and its `reclaim` is entry {old}."
 
@@ -189,7 +255,12 @@ def of_due(case):
         walks = case.rows_of("plain", by)
         if [(walk.node, walk.priority) for walk in walks] != due:
             wanted = f"one walk of the pools, on node {due[0][0]} with priority {due[0][1]}" if due else "no walk of the pools"
-            yield Break("due", f"{case.told_command(by).capitalize()} has {wanted}, and the report says {'others' if walks else 'none'}.", [answer.line])
+            has = [walks[0].line] if walks else []
+            yield Break(
+                "due",
+                f"{case.told_command(by).capitalize()} makes {wanted}, and the report has {'another' if walks else 'none'}.",
+                [answer.line, *has],
+            )
     for walk in case.pool_walks:
         command, answer = case.command(walk.by), case.answer(walk.by)
         if command is None or not due_of(case, command, answer):
@@ -209,10 +280,20 @@ def of_versions(case):
             for pool, found in enumerate(walk.tries):
                 place = home(case.script, pool, walk.node)
                 if found.version < last.get(place, (0,))[0]:
-                    yield Break("versions", f"It counts {pool_told(case, place)} after {found.version} entries, and an earlier count of its worker was after {last[place][0]}.", [found.line, last[place][1]])
+                    yield Break(
+                        "versions",
+                        f"The walk of the pools counts {pool_told(case, place)} after {found.version} entries, and an earlier"
+                        f" count of its worker was after {last[place][0]}.",
+                        [found.line, last[place][1]],
+                    )
                 last[place] = (found.version, found.line)
                 if place in cited and found.version <= cited[place][0]:
-                    yield Break("later", f"It counts {pool_told(case, place)} after {found.version} entries, and an earlier answer of its worker cites entry {cited[place][0]}.", [found.line, cited[place][1]])
+                    yield Break(
+                        "later",
+                        f"The walk of the pools counts {pool_told(case, place)} after {found.version} entries, and an earlier"
+                        f" answer of its worker cites entry {cited[place][0]}.",
+                        [found.line, cited[place][1]],
+                    )
 
 
 def of_others(case):
@@ -223,9 +304,15 @@ def of_others(case):
                 continue
             walks = case.report.part(entry.by[0]).plain
             walk = walks[entry.by[1]] if entry.by[1] < len(walks) else None
-            tried = walk.tries[place.id] if walk and place.id < len(walk.tries) and home(case.script, place.id, walk.node) == place else None
+            here = walk and place.id < len(walk.tries) and home(case.script, place.id, walk.node) == place
+            tried = walk.tries[place.id] if here else None
             if tried is None or not tried.run:
-                yield Break("no_others", f"The `reclaim` entry {number} of {pool_told(case, place)} is of walk {entry.by[1]} of the pools by worker {entry.by[0]}, which has no pass there.", [entry.line])
+                yield Break(
+                    "no_others",
+                    f"The `reclaim` entry {number} of {pool_told(case, place)} is of walk {entry.by[1]} of the pools by"
+                    f" worker {entry.by[0]}, which has no pass there.",
+                    [entry.line],
+                )
 
 
 def of_deferred(case):
@@ -241,7 +328,11 @@ def of_deferred(case):
         told, right = (printed[place].amount if place in printed else 0), (given[place] - taken[place]) % 2**64
         if told != right:
             line = printed[place].line if place in printed else None
-            yield Break("deferred", f"The deferred word of {pool_told(case, place)} is {told:,}, and its passes leave {right:,}.", [line] if line else [])
+            yield Break(
+                "deferred, shown",
+                f"The deferred word of {pool_told(case, place)} is {told:,}, and its passes leave {right:,}.",
+                [line] if line else [],
+            )
 
 
 FIELDS = (of_units, of_once, of_replies, of_cited, of_order, of_walks, of_due, of_versions, of_others, of_deferred)

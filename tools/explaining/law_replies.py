@@ -1,7 +1,9 @@
 """L1: each command has its answer, and each entry of a tenant is cited by the answer to its command."""
 
-from explaining.case import Break, is_pool_verb
-from explaining.report import TENANT, Place
+from explaining import readings
+from explaining.case import Break, first_apart
+from explaining.report import TENANT
+from explaining.shown import lower, quoted
 
 TITLE = "each command has an answer that it may have, and each entry of a tenant's call is cited by the answer to its command"
 OBJECT_VERBS = ("put", "get", "del", "pin", "unpin")
@@ -14,7 +16,10 @@ CITES = {
     "unpin": {"done": ("unpin", "done"), "miss": ("unpin", "miss")},
 }
 # The other answers by the verb, and whether they stand with a cache that was found: `after`, `before`, or `free` for both.
-TENANTS = {"offline": "before", "notmade": "before", "nocache": "before", "worn lookups": "before", "worn list": "after", "memory": "free"}
+TENANTS = {
+    "offline": "before", "notmade": "before", "nocache": "before", "worn lookups": "before", "worn list": "after",
+    "memory": "free",
+}
 WALKS = {"walked": "before", "walkmemory": "before"}
 UNCITED = {
     "put": {**TENANTS, "over": "before", "worn charges": "before"},
@@ -40,19 +45,24 @@ def of_head(case):
     """version, nodes, ids, paths, names, pools"""
     script, report = case.script, case.report
     rows = (
-        ("version", 1, report.version, script.version), ("nodes", 2, report.nodes, script.nodes), ("ids", 2, report.ids, script.ids),
+        ("version", 1, report.version, script.version), ("nodes", 2, report.nodes, script.nodes),
+        ("ids", 2, report.ids, script.ids),
     )
     for field, line, told, right in rows:
         if told != right:
-            yield Break(field, f"The report says {field if field != 'version' else 'version'} {told}, and the script says {right}.", [line])
+            what = ("version {}" if field == "version" else "{} " + field).format
+            yield Break(field, f"The report says {what(told)}, and the script {what(right)}.", [line])
     line = 3
-    for field, told, rows in (("paths", report.groups, script.groups), ("names", report.caches, script.caches), ("pools", report.pools, script.pools)):
+    names = (
+        ("paths", "group", report.groups, script.groups), ("names", "cache", report.caches, script.caches),
+        ("pools", "pool", report.pools, script.pools),
+    )
+    for field, what, told, rows in names:
         right = [row[0] for row in rows]
         if told != right:
-            at = next((at for at, pair in enumerate(zip(told, right)) if pair[0] != pair[1]), min(len(told), len(right)))
-            what = {"paths": "group", "names": "cache", "pools": "pool"}[field]
-            wanted = f"`{right[at].decode()}`" if at < len(right) else "none"
-            yield Break(field, f"The script's {what} {at} is {wanted}.", [line + at])
+            at = first_apart(told, right)
+            wanted, has = (f"`{row[at].decode()}`" if at < len(row) else "none" for row in (right, told))
+            yield Break(field, f"The script's {what} {at} is {wanted}, and the report has {has}.", [line + at])
         line += len(told)
 
 
@@ -64,10 +74,16 @@ def of_counts(case):
         sweeps = 1 if script.sweep and worker < len(script.workers) else 0
         if len(answers) != len(commands) + sweeps:
             what = f"{len(commands)} commands" + (" and the sweep" if sweeps else "")
-            yield Break("counts", f"Worker {worker} has {what} in the script, and {len(answers)} answers here.", [answers[-1].line] if answers else [])
+            yield Break(
+                "counts", f"Worker {worker} has {what} in the script, and {len(answers)} answers here.",
+                [answers[-1].line] if answers else [],
+            )
         if len(answers) > len(commands) and answers[len(commands)].kind not in SWEEP_ANSWERS:
             answer = answers[len(commands)]
-            yield Break("last", f"The last answer of worker {worker} stands behind those to its commands, and isn't one to a sweep.", [answer.line])
+            yield Break(
+                "last", f"The last answer of worker {worker} stands behind those to its commands, and isn't one to a sweep.",
+                [answer.line],
+            )
 
 
 def name_of(answer):
@@ -79,7 +95,10 @@ def of_answer(case, by, command, answer):
     kinds = CITES.get(command.verb, {})
     if answer.kind in kinds:
         if not answer.found:
-            return f"`{answer.kind}` stands without a line `find`, but {command.verb} acts on a list only once it has found the cache."
+            return (
+                f"`{answer.kind}` stands without a line `find`, but a `{command.verb}` acts on a list only once it has found"
+                " the cache."
+            )
         return of_cited(case, by, command, answer, *kinds[answer.kind])
     row = UNCITED[command.verb].get(name_of(answer))
     if row is None:
@@ -105,7 +124,7 @@ def of_cited(case, by, command, answer, kind, outcome):
     entry, value = entries[number], words.get("value")
     wanted = (kind, by, words["group"], words["key"], value if kind == "add" else None, outcome)
     if (entry.kind, entry.by, entry.birth, entry.key, entry.value, entry.outcome) != wanted:
-        return f"The answer cites entry {number} of that list (line {entry.line}), which isn't the `{kind} .. {outcome}` of this command."
+        return f"The answer cites entry {number} of that list (line {entry.line}). {of_entry(entry, wanted)}"
     if answer.kind == "hit":
         named = case.journals.replay(place).named[number]
         if named is None or named.value != answer.value:
@@ -114,12 +133,35 @@ def of_cited(case, by, command, answer, kind, outcome):
     return None
 
 
+def of_entry(entry, wanted):
+    """What of an entry isn't as an answer says."""
+    kind, by, birth, key, value, outcome = wanted
+    if (entry.kind, entry.outcome) != (kind, outcome):
+        return f"That is `{entry.kind} .. {entry.outcome or ''}`, and it is to be `{kind} .. {outcome}`."
+    if entry.by != by:
+        return f"That is of command {entry.by[1]} of worker {entry.by[0]}."
+    if entry.birth != birth:
+        return f"Its birth group is {entry.birth}, and the command names group {birth}."
+    what = ("key", entry.key, key) if entry.key != key else ("value", entry.value, value)
+    return "Its {} is {}, and that of the command is {}.".format(what[0], *map(quoted, what[1:]))
+
+
+def of_cited_places(case):
+    """cited places, if they are asked for here"""
+    for part in case.report.workers if readings.CITED_PLACES_ARE_THERE else ():
+        for answer in part.answers:
+            if answer.cited and not case.is_there(answer.cited[0]):
+                yield Break(
+                    "there", f"The answer cites a list at {case.place(answer.cited[0])}, which isn't there.", [answer.line],
+                )
+
+
 def of_answers(case):
     """answered"""
     for by, command, answer in case.each_answer():
         told = of_answer(case, by, command, answer)
         if told:
-            yield Break("answered", f"{case.told_command(by).capitalize()}: {told}", [answer.line])
+            yield Break("answered", f"{case.told_command(by).capitalize()}: {lower(told)}", [answer.line])
 
 
 def cited_by(case, by):
@@ -131,7 +173,12 @@ def of_entries(case):
     """cited"""
     for place, number, entry in case.each_entry():
         if entry.kind in TENANT and cited_by(case, entry.by) != (place, number):
-            yield Break("cited", f"Entry {number} of the list at {case.place(place)} is of {case.told_command(entry.by)}, whose answer doesn't cite it.", [entry.line])
+            yield Break(
+                "cited",
+                f"Entry {number} of the list at {case.place(place)} is of {case.told_command(entry.by)}, whose answer doesn't"
+                " cite it.",
+                [entry.line],
+            )
 
 
 def of_order(case):
@@ -144,7 +191,12 @@ def of_order(case):
             place, number = answer.cited
             before = last.get(place)
             if before and before[0] >= number:
-                yield Break("rise", f"The answer cites entry {number} of the list at {case.place(place)}, and an earlier answer of its worker cites entry {before[0]} there.", [answer.line, before[1]])
+                yield Break(
+                    "rise",
+                    f"The answer cites entry {number} of the list at {case.place(place)}, and an earlier answer of its worker"
+                    f" cites entry {before[0]} there.",
+                    [answer.line, before[1]],
+                )
             last[place] = (number, answer.line)
 
 
@@ -158,7 +210,10 @@ def of_once(case):
     for part in case.report.workers if twice else ():
         for answer in part.answers:
             if answer.cited and answer.cited[0] in twice:
-                yield Break("once", f"The answer cites a list that is printed twice: {case.place(answer.cited[0])}.", [answer.line, twice[answer.cited[0]]])
+                yield Break(
+                    "once", f"The answer cites a list that is printed twice: {case.place(answer.cited[0])}.",
+                    [answer.line, twice[answer.cited[0]]],
+                )
 
 
-FIELDS = (of_head, of_counts, of_answers, of_entries, of_order, of_once)
+FIELDS = (of_head, of_counts, of_cited_places, of_answers, of_entries, of_order, of_once)

@@ -2,9 +2,9 @@
 
 from collections import Counter
 
-from explaining.case import FIRST_ISOLATION, Break, falls
+from explaining.case import FIRST_ISOLATION, Break
 from explaining.law_walk import of_each
-from explaining.report import Place
+from explaining.shown import lower
 
 TITLE = "each walk follows from the lists that it counted, each command has its walks, and a worker sees what it did before"
 
@@ -16,7 +16,12 @@ def of_others(case):
             continue
         walk = case.scanner(entry)
         if walk is None or not any(attempt.run and walk.place(attempt.id) == place for attempt in walk.attempts):
-            yield Break("no_others", f"The `scan` entry {number} of the list at {case.place(place)} is of walk {entry.walk[1]} of worker {entry.walk[0]}, which has no pass there.", [entry.line])
+            yield Break(
+                "no_others",
+                f"The `scan` entry {number} of the list at {case.place(place)} is of walk {entry.walk[1]} of worker"
+                f" {entry.walk[0]}, which has no pass there.",
+                [entry.line],
+            )
 
 
 def refused_rounds(case, by):
@@ -97,7 +102,7 @@ def of_commands(case):
         else:
             told = of_due(case, command, answer, made)
         if told:
-            yield Break("walks", f"{case.told_command(by).capitalize()}: {told}", [answer.line])
+            yield Break("walks", f"{case.told_command(by).capitalize()}: {lower(told)}", [answer.line])
 
 
 def of_due(case, command, answer, made):
@@ -126,7 +131,11 @@ def of_told(case):
         wanted = ({"ran": "walked", "memory": "walkmemory", "offline": "offline"}[told[0]], (told[1],))
         if (answer.kind, answer.values) != wanted:
             word = {"ran": "walked", "memory": "memory", "offline": "offline"}[told[0]]
-            yield Break("told", f"{case.told_command(by).capitalize()} is answered otherwise than its walks say, which is `{word} {told[1]}`.", [answer.line])
+            yield Break(
+                "told",
+                f"{case.told_command(by).capitalize()} is answered otherwise than its walks say, which is `{word} {told[1]}`.",
+                [answer.line],
+            )
 
 
 def versions_in(walk):
@@ -142,7 +151,12 @@ def of_versions(case):
             for place, version, line in versions_in(walk):
                 before = last.get(place)
                 if before and version < before[0]:
-                    yield Break("versions", f"It counts the list at {case.place(place)} after {version} entries, and an earlier count of its worker was after {before[0]}.", [line, before[1]])
+                    yield Break(
+                        "versions",
+                        f"The attempt counts the list at {case.place(place)} after {version} entries, and an earlier count of"
+                        f" its worker was after {before[0]}.",
+                        [line, before[1]],
+                    )
                 last[place] = (version, line)
 
 
@@ -160,7 +174,12 @@ def of_later(case):
                 at += 1
             for place, version, line in versions_in(walk):
                 if place in cited and version <= cited[place][0]:
-                    yield Break("later", f"It counts the list at {case.place(place)} after {version} entries, and an earlier answer of its worker cites entry {cited[place][0]} there.", [line, cited[place][1]])
+                    yield Break(
+                        "later",
+                        f"The attempt counts the list at {case.place(place)} after {version} entries, and an earlier answer"
+                        f" of its worker cites entry {cited[place][0]} there.",
+                        [line, cited[place][1]],
+                    )
 
 
 def of_bits(case):
@@ -175,7 +194,13 @@ def of_bits(case):
             for seen in walk.maps:
                 for place, line in filled.get((walk.group, walk.node, seen.unit), ()):
                     if place not in cleared and not seen.bits >> place.id % 64 & 1:
-                        yield Break("bits", f"The map lacks the bit of id {place.id} in {case.group(walk.group)} on node {walk.node}. An earlier put of this worker added the first object to that list, which sets the bit, and no walk cleared it.", [seen.line, line])
+                        yield Break(
+                            "bits",
+                            f"The map lacks the bit of id {place.id} in {case.group(walk.group)} on node {walk.node}. An"
+                            " earlier put of this worker added the first object to that list, which sets the bit, and no"
+                            " walk cleared it.",
+                            [seen.line, line],
+                        )
 
 
 def note_filled(case, filled, answer):

@@ -1,6 +1,7 @@
 """The laws of a report by their numbers, and the first one that is broken."""
 
-from explaining import law_causes, law_charges, law_fresh, law_isolations, law_journals, law_lookups, law_pools, law_replies, law_walks
+from explaining import law_causes, law_charges, law_fresh, law_isolations, law_journals
+from explaining import law_lookups, law_pools, law_replies, law_walks
 
 LAWS = (
     ("replies", law_replies.TITLE, law_replies.FIELDS),

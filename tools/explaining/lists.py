@@ -79,11 +79,11 @@ class Replay:
             return Items(), None, [], None
         if entry.kind == "drained":
             freed = items.all()
-            return Items(), None, freed, of_number("objects", entry.objects, len(freed))
+            return Items(), None, freed, of_number("drained", entry.objects, len(freed))
         if entry.kind == "moved":
             moved = [] if entry.birth in self.moved else given(entry.birth)
             self.moved.append(entry.birth)
-            return Items([*moved, *items.all()]), None, [], of_number("objects", entry.objects, len(moved))
+            return Items([*moved, *items.all()]), None, [], of_number("moved in", entry.objects, len(moved))
         if entry.kind == "scan":
             visits, freed, stopped = items.scan(entry.policy, entry.asked)
             return items, None, freed, of_scan(entry, visits, len(freed), stopped)
@@ -109,12 +109,15 @@ def change(items, entry, number, named):
 
 
 def of_number(what, told, right):
-    return None if told == right else f"it says {told} {what}, and there were {right}"
+    return None if told == right else f"it says that {told} objects were {what}, and the list had {right}"
 
 
 def of_scan(entry, visits, freed, stopped):
     told, right = (entry.visits, entry.freed, entry.outcome), (visits, freed, "stopped" if stopped else "whole")
-    return None if told == right else "it says {} visits, {} freed, {}, and a scan of that list gives {}, {}, {}".format(*told, *right)
+    return (
+        None if told == right else
+        "it says {} visits, {} freed, {}, and a scan of that list gives {}, {}, {}".format(*told, *right)
+    )
 
 
 def of_outcome(entry, named):

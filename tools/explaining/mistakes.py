@@ -2,7 +2,7 @@
 
 import re
 
-from explaining.grammar import DECLARATIONS, KINDS, OF_VERSION_2, VERBS, Fault, allowed, misplaced
+from explaining.grammar import KINDS, OF_VERSION_2, VERBS, allowed, misplaced
 from explaining.nearest import nearest
 from explaining.shown import quoted
 
@@ -133,7 +133,10 @@ def of_comment(case):
     word = case.word
     if not word.startswith(COMMENTS) or (case.fault.at and case.fault.code != "Trailing"):
         return None
-    return "A script has no comments. Take the line out." if not case.fault.at else "A script has no comments, also at the end of a line."
+    return (
+        "A script has no comments. Take the line out." if not case.fault.at else
+        "A script has no comments, also at the end of a line."
+    )
 
 
 def of_spelling(case):
@@ -184,7 +187,10 @@ def of_order(case):
     if script.phase == "size":
         return "The second line is `size NODES IDS`, before all others."
     if case.fault.code == "NoWorker":
-        return f"A line `worker` is missing before the {'command' if word in VERBS else 'sweep'}: it begins each worker's commands."
+        return (
+            f"A line `worker` is missing before the {'command' if word in VERBS else 'sweep'}: it begins each worker's"
+            " commands."
+        )
     if word in (b"shrinkers", b"size"):
         return f"{SECTION[word].capitalize()} has its line already. Each script has one."
     if script.phase == "swept":

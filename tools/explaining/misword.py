@@ -6,7 +6,7 @@ from itertools import combinations
 from explaining.grammar import Fault, classes_of, parent_path, values_of
 from explaining.nearest import nearest
 from explaining.shown import quoted
-from explaining.words import Chosen, Limit, Listed, Number
+from explaining.words import Limit
 
 UNIT = re.compile(rb"[0-9]+(\.[0-9]+)?[ _]?([kKmMgGtT]i?[bB]?|[bB]|%|[smhd]|ms)")
 NO_LIMIT = (b"none", b"unlimited", b"inf", b"infinity", b"no", b"off", b"-1", b"MAX", b"Max", b"-", b"*")
@@ -143,7 +143,10 @@ def of_group(case):
     known = [group.path for group in script.groups[1:]]
     near = nearest(word, known) or next((it for it in known if it.rpartition(b"/")[2] == word.rpartition(b"/")[2]), None)
     told = f" The nearest is {quoted(near)}, of line {script.groups[script.group_of[near]].line}." if near else ""
-    return f"No group {quoted(word)} is declared.{told or f' A line `group {word.decode()[:40]} max` before the caches declares it.'}"
+    return (
+        f"No group {quoted(word)} is"
+        f" declared.{told or f' A line `group {word.decode()[:40]} max` before the caches declares it.'}"
+    )
 
 
 def of_cache(case):
@@ -204,7 +207,10 @@ def of_too_many(case):
     if case.fault.at == 7:
         ids = "1 id" if script.ids == 1 else f"{script.ids} ids"
         return f"More caches are `on` than there are ids: line 2 says {ids}. Write a greater number there, or `off` here."
-    most = {b"cache": "250 caches", b"pool": "64 pools", b"worker": "64 workers"}.get(kind, "20,000 commands in all workers together")
+    most = (
+        {b"cache": "250 caches", b"pool": "64 pools", b"worker": "64 workers"}.get(kind,
+        "20,000 commands in all workers together")
+    )
     return f"There are too many: a script has at most {most}."
 
 

@@ -27,7 +27,10 @@ def wrong_in(due, run):
     if run.scanned != due.scanned:
         return f"it says that it asked for {run.scanned} objects, and {run.asks} asks are for {due.scanned}"
     if run.next != due.next:
-        return f"it defers {run.next} again, and what is left is {due.next}: {run.nr} deferred before, {due.delta} new, {run.scanned} asked"
+        return (
+            f"it defers {run.next} again, and what is left is {due.next}: {run.nr} deferred before, {due.delta} new,"
+            f" {run.scanned} asked"
+        )
     if run.closed > run.asks:
         return f"it says that {run.closed} asks found the list closed, of {run.asks} asks"
     return None

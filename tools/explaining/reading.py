@@ -87,7 +87,8 @@ def read_tree(lines, report):
     while lines.first() == b"tree":
         words = lines.take()
         words.numbered("the entry", len(report.tree))
-        report.tree.append(TreeEntry(words.choice("what the entry says", (b"made", b"begin", b"done")), words.number("G", SHORT), words.line))
+        kind = words.choice("what the entry says", (b"made", b"begin", b"done"))
+        report.tree.append(TreeEntry(kind, words.number("G", SHORT), words.line))
         words.done()
 
 
@@ -298,7 +299,9 @@ def read_units_entry(lines, kind):
         entry = UnitsEntry(kind, by, None, words.number("ASKED", COUNT), words.number("FREED", COUNT), words.line)
     else:
         by = words.serial()
-        number = words.number("UNITS", COUNT) if kind == "release" else int(words.choice("its outcome", (b"got", b"bare")) == "got")
+        number = (
+            words.number("UNITS", COUNT) if kind == "release" else int(words.choice("its outcome", (b"got", b"bare")) == "got")
+        )
         entry = UnitsEntry(kind, by, number, None, None, words.line)
     words.done()
     return entry
@@ -319,6 +322,10 @@ def read_bits(lines, report):
         words.done()
     if lines.first() == b"bit":
         lines.fail("all bit words stand above: each node and group but the root has its own")
+
+
+def pool_place(words):
+    return Place(words.number("P", SHORT), words.number("NODE", BYTE), 0)
 
 
 def read_amounts(lines, rows, word, place_of):
@@ -353,7 +360,7 @@ def read_end(lines, report):
         words.done()
     report.lines["total"] = lines.line
     words = lines.take_of(b"total", "the line `total ADDED FREED LISTED REPLIES WALKS` comes here")
-    report.added, report.freed, report.listed = words.number("ADDED", LONG), words.number("FREED", LONG), words.number("LISTED", LONG)
+    report.added, report.freed, report.listed = (words.number(what, LONG) for what in ("ADDED", "FREED", "LISTED"))
     counts = sum(len(part.answers) for part in report.workers), sum(len(part.walks) for part in report.workers)
     for what, count in zip(("REPLIES", "WALKS"), counts):
         if words.number(what, LONG) != count:
@@ -376,7 +383,7 @@ def read_report(data):
     read_units(lines, report)
     read_bits(lines, report)
     read_amounts(lines, report.deferred, b"deferred", Words.place)
-    read_amounts(lines, report.pool_deferred, b"pooldeferred", lambda words: Place(words.number("P", SHORT), words.number("NODE", BYTE), 0))
+    read_amounts(lines, report.pool_deferred, b"pooldeferred", pool_place)
     read_uses(lines, report)
     read_end(lines, report)
     return report

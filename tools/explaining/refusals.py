@@ -1,6 +1,6 @@
 """What is said of a script: that it is good, with its sizes, or its first bad line."""
 
-from explaining.grammar import DECLARATIONS, VERBS, Fault, Script, read_script
+from explaining.grammar import VERBS, Fault, Script, read_script
 from explaining.mistakes import Case, of_whole
 from explaining.misword import form_of, of_word
 from explaining.shown import marked_line, quoted
@@ -55,7 +55,10 @@ def of_fault(name, case):
     told = of_whole(case) or of_word(case)
     expected = expected_at(case)
     if not told:
-        told = "The first line isn't one of a script." if fault.line == 1 else f"No line of a script begins with {quoted(case.word)} here."
+        told = (
+            "The first line isn't one of a script." if fault.line == 1 else
+            f"No line of a script begins with {quoted(case.word)} here."
+        )
     lines = [f"{name}, line {fault.line}: refused, {fault.code}.", *marked_line(fault.line, case.text, *case.span()), told]
     if expected:
         lines.append(f"Expected here: {expected}.")

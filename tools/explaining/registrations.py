@@ -42,7 +42,10 @@ class Registrations:
 
     def live_id(self, ids, decl, count):
         """The id by which a declaration is live after so many entries, or None."""
-        return next((of_id for of_id in self.of_id if of_id < ids and self.is_live(of_id, count) and self.decl(of_id, count) == decl), None)
+        for of_id in self.of_id:
+            if of_id < ids and self.is_live(of_id, count) and self.decl(of_id, count) == decl:
+                return of_id
+        return None
 
     def lowest_idle(self, ids, count):
         """The lowest id that can be registered, or None."""
@@ -55,11 +58,14 @@ class Registrations:
     def lookups(self, of_id):
         return self.report.lookups[of_id] if of_id < len(self.report.lookups) else 0
 
-    def met(self, of_id, number):
-        """The declaration in whose registration the number of a lookup lies, or None."""
-        if number >= self.lookups(of_id):
+    def met(self, of_id, number, bounded=True):
+        """The declaration in whose registration a lookup lies, or None. Bounded: it is below the printed lookups of the id."""
+        if bounded and number >= self.lookups(of_id):
             return None
-        return next((decl for decl, begun, ended in self.spans.get(of_id, ()) if begun <= number and (ended is None or number < ended)), None)
+        for decl, begun, ended in self.spans.get(of_id, ()):
+            if begun <= number and (ended is None or number < ended):
+                return decl
+        return None
 
 
 def spans_of(rows):

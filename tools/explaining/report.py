@@ -52,9 +52,10 @@ class Attempt:
 
     __slots__ = ("id", "kind", "number", "then", "seen", "counts", "run", "line")
 
-    def __init__(self, of_id, kind, line, number=None, then=None, seen=None, counts=(), run=None):
-        self.id, self.kind, self.line, self.number, self.then = of_id, kind, line, number, then
-        self.seen, self.counts, self.run = seen, counts, run
+    def __init__(self, of_id, kind, line, number=None, **parts):
+        self.id, self.kind, self.line, self.number = of_id, kind, line, number
+        self.then, self.seen, self.counts, self.run = (parts.get(name) for name in ("then", "seen", "counts", "run"))
+        self.counts = self.counts or []
 
     @property
     def is_held(self):
@@ -99,7 +100,9 @@ class PoolWalk:
 class Entry:
     """An entry of a list's journal."""
 
-    __slots__ = ("kind", "by", "birth", "key", "value", "outcome", "walk", "asked", "policy", "visits", "freed", "objects", "line")
+    __slots__ = (
+        ("kind", "by", "birth", "key", "value", "outcome", "walk", "asked", "policy", "visits", "freed", "objects", "line")
+    )
 
     def __init__(self, kind, line, **parts):
         self.kind, self.line = kind, line

@@ -1,6 +1,14 @@
 """Shows bytes to a person: control characters and others that can't be seen are written out, and a mark stands below a word."""
 
+import re
+
 WIDEST = 96
+NOUNS = {
+    "entries": "entry", "objects": "object", "units": "unit", "asks": "ask", "lookups": "lookup", "pools": "pool",
+    "answers": "answer", "commands": "command", "walks": "walk", "visits": "visit", "jobs": "job", "rounds": "round",
+    "times": "time", "caches": "cache", "ids": "id", "nodes": "node", "groups": "group", "charges": "charge",
+    "uncharges": "uncharge", "items": "item",
+}
 ESCAPES = {9: "\\t", 10: "\\n", 13: "\\r", 92: "\\"}
 BLANKS = {"\ufeff": "\\ufeff", "\u00a0": "\\u00a0", "\u200b": "\\u200b", "\u2028": "\\u2028"}
 
@@ -23,6 +31,21 @@ def visible_character(character):
     if character in BLANKS:
         return BLANKS[character]
     return character if character.isprintable() else f"\\u{code:04x}"
+
+
+def singular(told):
+    """A sentence with its nouns and verbs for one thing where the number before them is 1."""
+    told = re.sub(r"(?<![\w,-])1 (%s)\b" % "|".join(NOUNS), lambda found: f"1 {NOUNS[found[1]]}", told)
+    told = (
+        re.sub(r"(?<![\w,-])(1(?: \w+)?) (were|are)\b", lambda found:
+        f"{found[1]} {'was' if found[2] == 'were' else 'is'}", told)
+    )
+    return re.sub(r"\bthere were 1\b", "there was 1", told)
+
+
+def lower(told):
+    """A sentence behind a colon."""
+    return told[:1].lower() + told[1:]
 
 
 def quoted(word):

@@ -8,7 +8,7 @@ from explaining.line_words import NotReport
 from explaining.mistakes import MARKS, Case as ScriptCase
 from explaining.reading import read_report
 from explaining.refusals import count, of_fault, script_or_fault
-from explaining.shown import marked_line, quoted
+from explaining.shown import marked_line, quoted, singular
 
 
 def parted(data):
@@ -22,22 +22,23 @@ def parted(data):
 def of_input(name, data):
     """The status and the lines for one input."""
     script, report = parted(data)
-    return of_parts(name, f"{name} (the report behind it)", script, report, 0)
+    return of_parts(name, f"{name} (the report behind it)", script, report)
 
 
 def of_pair(script_name, report_name, script, report):
     """The same for two files, which are judged as if one stood behind the other."""
     first, second = parted(script + report)
-    status, lines = of_parts(script_name, report_name, first, second, 0)
+    status, lines = of_parts(script_name, report_name, first, second)
     if len(first) < len(script):
         line = first.count(b"\n") + 1
-        lines.append(f"{script_name} has more behind its `end`, from line {line} on, and that is read as the beginning of the report.")
+        told = f"{script_name} has more behind its `end`, from line {line} on, and that is read as the report's beginning."
+        lines.append(told)
     elif len(first) > len(script):
         lines.append(f"{script_name} has no line `end`, so that {report_name} is read on as a part of it.")
     return status, lines
 
 
-def of_parts(script_name, report_name, script_text, report_text, before):
+def of_parts(script_name, report_name, script_text, report_text):
     script, fault = script_or_fault(script_text)
     if fault:
         return 5, of_fault(script_name, ScriptCase(script_text, script, fault))
@@ -50,7 +51,8 @@ def of_parts(script_name, report_name, script_text, report_text, before):
     found = first_broken(case)
     if found:
         return 8, of_broken(report_name, report_text, found)
-    sizes = [count(sum(len(part.answers) for part in report.workers), "answer"), count(len(case.walks), "walk"), count(len(report.lists), "list")]
+    answers = sum(len(part.answers) for part in report.workers)
+    sizes = [count(answers, "answer"), count(len(case.walks), "walk"), count(len(report.lists), "list")]
     return 0, [f"{report_name} is lawful for {script_name}: all twelve laws hold ({', '.join(sizes)})."]
 
 
@@ -59,7 +61,7 @@ def of_broken(name, text, found):
     number, law, title, broken = found
     parts = text.split(b"\n")
     field = ", ".join(f"`{it}`" for it in broken.field.split(", "))
-    lines = [f"{name}: unlawful, L{number}, {law} (docs/LAWS.md, {field}).", f"The law says that {title}.", broken.told]
+    lines = [f"{name}: unlawful, L{number}, {law} (docs/LAWS.md, {field}).", f"The law says that {title}.", singular(broken.told)]
     for line in list(dict.fromkeys(broken.lines))[:3]:
         lines.append(marked_line(line, parts[line - 1], 0, 0)[0])
     return lines
@@ -81,7 +83,10 @@ def of_other_text(text, fault):
     if not text:
         return "The report is empty. It begins with `report 1` or `report 2`."
     if line.endswith(b"\r"):
-        return "The line ends with a carriage return before its line feed (`\\r`). Each line of a report ends with one line feed alone."
+        return (
+            "The line ends with a carriage return before its line feed (`\\r`). Each line of a report ends with one line feed"
+            " alone."
+        )
     if not line and fault.line <= text.count(b"\n"):
         return "The line is empty. A report has no empty lines."
     if b"\t" in line:

@@ -33,13 +33,21 @@ def program_answer(program, data):
     return "good" if done.returncode == 0 else f"status {done.returncode}"
 
 
+def program_verdict(program, data):
+    """What the program says of a script with its report behind it."""
+    done = subprocess.run([program, "audit"], input=data, stdout=subprocess.PIPE, check=False, timeout=120)
+    return done.stdout.decode().strip() or f"status {done.returncode}"
+
+
 def cases_of_run():
     """Each case of the suite that is a script alone, with what `run` says of it."""
     for path in sorted(glob.glob(f"{SUITE}/*.script")):
         stem = path.removesuffix(".script")
         if os.path.exists(f"{stem}.args"):
             continue
-        wanted = bytes_of(f"{stem}.refused").decode().strip().removeprefix("refused ") if os.path.exists(f"{stem}.refused") else "good"
+        wanted = (
+            bytes_of(f"{stem}.refused").decode().strip().removeprefix("refused ") if os.path.exists(f"{stem}.refused") else "good"
+        )
         yield stem, bytes_of(path), wanted
 
 

@@ -4,10 +4,11 @@ import re
 
 CHOICES = (
     (b"added", b"exists"), (b"hit", b"miss"), (b"dropped", b"pinned", b"miss"), (b"done", b"miss"), (b"marked", b"clean"),
-    (b"pinned", b"loose"), (b"whole", b"stopped"), (b"plain", b"clock", b"halt"), (b"got", b"bare"), (b"+", b"-"), (b"fs", b"nofs"),
+    (b"pinned", b"loose"), (b"whole", b"stopped"), (b"plain", b"clock", b"halt"), (b"got", b"bare"), (b"+", b"-"),
+    (b"fs", b"nofs"), (b"grabbed", b"bare"), (b"registered", b"unregistered"),
     (b"ran", b"memory", b"offline"), (b"through", b"stop", b"noroom"), (b"set", b"clear", b"root"), (b"begin", b"done", b"made"),
     (b"walked", b"memory"), (b"made", b"alreadymade"), (b"offline", b"alreadydone", b"notmade"), (b"nocache", b"noid"),
-    (b"spent", b"bare", b"stop", b"closed", b"noroom"), (b"skip", b"cleared"), (b"registered", b"unregistered"), (b"grabbed", b"bare"),
+    (b"spent", b"bare", b"stop", b"closed", b"noroom"), (b"skip", b"cleared"),
 )
 NUMBERED = (b"pool", b"tree")
 

@@ -5,7 +5,7 @@ import random
 import subprocess
 
 from explaining.refusals import of_script
-from explaining.tests import answers, mutations
+from explaining.tests import answers, audits, mutations
 from explaining.tests.answers import TOP, bytes_of, say
 from explaining.tests.wrong_scripts import ROWS
 
@@ -62,6 +62,12 @@ def of_stored():
     return report("scripts with a mistake", *differences(answers.stored("scripts"), answers.script_answer))
 
 
+def of_audits():
+    """The verdicts of the suite and of the stored reports."""
+    suite = report("reports of the suite", *differences(audits.cases_of_audit(), audits.verdict))
+    return report("changed reports", *differences(answers.stored("reports"), audits.verdict)) and suite
+
+
 def of_wrong_scripts():
     """The sentence of each mistake that people make."""
     bad = 0
@@ -76,10 +82,13 @@ def of_wrong_scripts():
 
 def of_program(program, count, seed):
     rows = ((data, answers.program_answer(program, data)) for data in mistaken(count, seed))
-    return report("scripts with a mistake, by the program", *differences(rows, answers.script_answer))
+    scripts = report("scripts with a mistake, by the program", *differences(rows, answers.script_answer))
+    rows = ((data, answers.program_verdict(program, data)) for data in audits.changed(count, seed))
+    return report("changed reports, by the program", *differences(rows, audits.verdict)) and scripts
 
 
 def store(program):
+    answers.store("reports", audits.rows_to_store(program))
     rows = []
     for data in mistaken(3 * STORED, 76, SMALL):
         answer = answers.program_answer(program, data)
@@ -94,7 +103,7 @@ def main(words, usage):
         print(usage.strip())
         return 0
     if not words:
-        tried = [of_suite(), of_stored(), of_wrong_scripts()]
+        tried = [of_suite(), of_stored(), of_wrong_scripts(), of_audits(), audits.of_sentences()]
     elif words[0] == "--program" and 2 <= len(words) <= 4 and all(word.isdigit() for word in words[2:]):
         count, seed = [int(word) for word in words[2:]] + [5_000, 1][len(words) - 2:]
         tried = [of_program(words[1], count, seed)]
