@@ -1,6 +1,7 @@
 """A script and its report, with what the laws look up: answers by their serials, journals, operations, registrations."""
 
-from collections import defaultdict, namedtuple
+from collections import Counter, defaultdict, namedtuple
+from functools import cached_property
 
 from explaining.lists import Journals
 from explaining.registrations import Registrations
@@ -31,7 +32,7 @@ class Case:
         self.units = {}
         for found in report.units:
             self.units.setdefault(found.place, found)
-        self.scans_of, self.drained = {}, {}
+        self.scans_of, self.drained, self.free_units = {}, {}, {}
         for place, number, entry in self.each_entry():
             if entry.kind == "scan":
                 self.scans_of.setdefault((place, entry.walk), []).append((number, entry))
@@ -120,7 +121,7 @@ class Case:
 
     # ---- what answers have as their cause
 
-    @property
+    @cached_property
     def puts(self):
         """How many commands are puts."""
         return sum(command.verb == "put" for commands in self.script.workers for command in commands)
@@ -130,20 +131,26 @@ class Case:
         ways = [use.up for use in self.report.uses if use.by[0] == worker]
         return ways.count(True), ways.count(False)
 
+    @cached_property
+    def all_offlines(self):
+        found = defaultdict(list)
+        for by, command, answer in self.each_answer():
+            if command.verb == "offline":
+                found[command.words["group"]].append((by, answer.kind))
+        return found
+
     def offlines(self, group, kinds):
         """The serials of the `offline` commands of a group that are answered so."""
-        return [
-            by for by, command, answer in self.each_answer()
-            if command.verb == "offline" and command.words["group"] == group and answer.kind in kinds
-        ]
+        return [by for by, kind in self.all_offlines.get(group, ()) if kind in kinds]
 
-    def moved_from(self, group):
-        """How many objects were moved in from the lists of a group."""
-        return sum(entry.objects for _, _, entry in self.each_entry() if entry.kind == "moved" and entry.birth == group)
-
-    def became_idle(self, of_id, number):
-        """Whether an id became idle behind an entry of the journal of registrations."""
-        return any(entry.kind == "idle" and entry.id == of_id for entry in self.report.pool[number + 1:])
+    @cached_property
+    def moved_from(self):
+        """How many objects were moved in from the lists of each group."""
+        counts = Counter()
+        for _, _, entry in self.each_entry():
+            if entry.kind == "moved":
+                counts[entry.birth] += entry.objects
+        return counts
 
     def units_entries(self, place):
         """The journal of a pool on a node."""
@@ -151,13 +158,11 @@ class Case:
 
     def free_at(self, place, count):
         """How many units were free after so many entries."""
-        free = 0
-        for entry in self.units_entries(place)[:count]:
-            if entry.kind == "release":
-                free += entry.number
-            else:
-                free = max(free - (entry.number if entry.kind == "grab" else entry.freed), 0)
-        return free
+        if place not in self.free_units:
+            free = self.free_units[place] = [0]
+            for entry in self.units_entries(place):
+                free.append(free_after(free[-1], entry))
+        return self.free_units[place][min(count, len(self.units_entries(place)))]
 
     # ---- words for people
 
@@ -179,6 +184,13 @@ class Case:
     def line_of(self, place):
         found = self.journals.lists.get(place)
         return found.line if found else None
+
+
+def free_after(free, entry):
+    """How many units of a pool are free after an entry."""
+    if entry.kind == "release":
+        return free + entry.number
+    return max(free - (entry.number if entry.kind == "grab" else entry.freed), 0)
 
 
 def group_named(command):

@@ -89,7 +89,7 @@ def of_over(case, by, command, answer):
             f"{case.group(group)} has {'no limit' if limit is None else f'a limit of {limit}'}, so a usage of {usage} refuses"
             " nothing."
         )
-    if any(use.up and use.by == by for use in uses[operation + 1:]):
+    if any(use.up and use.operation > operation for use in case.uses_by[by, group]):
         return f"operation {operation} of {case.group(group)} isn't its last charge there."
     tried = sum(use.up for use in case.uses_by.get((by, group_named(command)), ()))
     return None if tried == 14 else f"a put gives up after 14 tries, and it charged its own group {tried} times."
@@ -139,7 +139,7 @@ def of_offlined(case, by, command, answer):
     carried = sum(carry.amount for carry in case.rows_of("carries", by)) % 2**64
     if deferred != carried:
         return f"it says that it carried {deferred:,}, and its lines `carry` come to {carried:,}."
-    most = case.moved_from(group)
+    most = case.moved_from[group]
     if moved > most:
         return f"it says that it moved {moved} objects, and {most} were moved from the lists of {case.group(group)}."
     if moved < most and is_alone(case, by, group):
@@ -219,14 +219,14 @@ def of_unregistered(case, by, command, answer):
 def of_freed(case, by, command, answer):
     told = of_unregistered(case, by, command, answer)
     return (
-        told or (None if case.became_idle(*answer.values[:2]) else
+        told or (None if case.registrations.became_idle(*answer.values[:2]) else
         f"id {answer.values[0]} doesn't become idle behind entry {answer.values[1]} of the journal of registrations.")
     )
 
 
 def of_half(case, by, command, answer):
     told = of_unregistered(case, by, command, answer)
-    if not told and case.became_idle(*answer.values[:2]):
+    if not told and case.registrations.became_idle(*answer.values[:2]):
         told = (
             f"it stopped half way, and id {answer.values[0]} becomes idle behind entry {answer.values[1]} of the journal of"
             " registrations."

@@ -61,7 +61,7 @@ def of_last(case):
     for of_id in case.registrations.of_id:
         last, lookups = case.registrations.last(of_id, count), case.registrations.lookups(of_id)
         if case.registrations.is_live(of_id, count) and last > lookups:
-            line = case.registrations.of_id[of_id][-1][1].line
+            line = case.registrations.of_id[of_id].rows[-1][1].line
             yield Break("last", f"Id {of_id} is registered from lookup {last} on, and it has {lookups} lookups in all.", [line])
 
 

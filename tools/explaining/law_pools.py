@@ -2,7 +2,7 @@
 
 from collections import Counter
 
-from explaining.case import Break, home
+from explaining.case import Break, free_after, home
 from explaining.passes import Due, wrong_in
 from explaining.report import Place
 from explaining.shown import lower
@@ -31,18 +31,12 @@ def of_units(case):
             told = of_entry(free, entry)
             if told:
                 yield Break("units", f"Entry {number} of {pool_told(case, place)}: {lower(told)}", [entry.line])
-            free = after(free, entry)
+            free = free_after(free, entry)
         if found.free != free:
             yield Break(
                 "units", f"{found.free} units are told as free of {pool_told(case, place)}, and its journal leaves {free}.",
                 [found.line],
             )
-
-
-def after(free, entry):
-    if entry.kind == "release":
-        return free + entry.number
-    return max(free - (entry.number if entry.kind == "grab" else entry.freed), 0)
 
 
 def of_entry(free, entry):
@@ -224,7 +218,7 @@ def of_pass(case, place, pool, walk, run):
         return f"a pass of a pool doesn't end by `{run.ending}` here: the pool's journal has {len(entries)} entries."
     own = (walk.by[0], walk.number)
     reclaims = [(number, entry) for number, entry in enumerate(entries) if entry.kind == "reclaim" and entry.by == own]
-    if [entry.asked for _, entry in reclaims] != [due.size] * run.asks:
+    if len(reclaims) != run.asks or any(entry.asked != due.size for _, entry in reclaims):
         return (
             f"the pass made {run.asks} asks of {due.size} units, and its `reclaim` entries there are"
             f" {len(reclaims)}{', with other sizes' if len(reclaims) == run.asks else ''}."
