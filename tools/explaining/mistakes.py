@@ -148,6 +148,8 @@ def of_spelling(case):
         return f"Words are of lower case letters: {quoted(lower)}."
     if word in KINDS:
         return None
+    if word == b"report":
+        return "A report begins here, and the line `end`, with which the script ends, is missing before it."
     near = nearest(word, case.words_here) or nearest(word, KINDS)
     return f"There is no line that begins with {quoted(word)}. Is {quoted(near)} meant?" if near else None
 

@@ -141,7 +141,8 @@ def of_group(case):
         where = f" (line {group.line})" if group.line else ""
         return f"`mkgroup` makes a group of a `later` line, and {quoted(word)} is there from the start{where}."
     known = [group.path for group in script.groups[1:]]
-    near = nearest(word, known) or next((it for it in known if it.rpartition(b"/")[2] == word.rpartition(b"/")[2]), None)
+    same = (path for path in known if path.rpartition(b"/")[2] == word.rpartition(b"/")[2])
+    near = next(same, None) or nearest(word, known)
     told = f" The nearest is {quoted(near)}, of line {script.groups[script.group_of[near]].line}." if near else ""
     return (
         f"No group {quoted(word)} is"
@@ -232,4 +233,5 @@ def of_word(case):
         swapped = of_swap(case)
         if swapped:
             return swapped
-    return BY_CODE[fault.code](case)
+    judge = BY_CODE.get(fault.code)
+    return judge(case) if judge else None

@@ -80,6 +80,26 @@ def of_wrong_scripts():
     return not bad
 
 
+def of_command():
+    """The statuses of the command, and that it says no more than ten lines and nothing of Python's."""
+    first, data = f"{TOP}/examples/first", f"{TOP}/crates/shr_suite/data"
+    rows = (
+        (0, [f"{first}.script"]), (0, [f"{first}.script", f"{first}.report"]), (5, [f"{first}.script", f"{first}.script"]),
+        (8, ["--audit", f"{data}/audit-bits-lost.script"]), (5, [f"{data}/refused-missing.script"]), (5, ["/dev/null"]),
+        (3, ["/nowhere"]), (3, [TOP]), (2, []), (2, ["--what"]), (2, ["-", "-"]), (2, ["a", "b", "c"]), (0, ["--help"]),
+    )
+    bad = 0
+    for wanted, words in rows:
+        command = [f"{TOP}/tools/explain", *words]
+        done = subprocess.run(command, capture_output=True, text=True, stdin=subprocess.DEVNULL, check=False)
+        told = done.stdout + done.stderr
+        if done.returncode != wanted or "Traceback" in told or (told.count("\n") > 10 and words != ["--help"]) or not told:
+            bad += 1
+            say(f"explain-test: explain {' '.join(words)}: wanted status {wanted}, got {done.returncode} and", told)
+    print(f"runs of the command: {len(rows)} tried, {bad} differ")
+    return not bad
+
+
 def of_program(program, count, seed):
     rows = ((data, answers.program_answer(program, data)) for data in mistaken(count, seed))
     scripts = report("scripts with a mistake, by the program", *differences(rows, answers.script_answer))
@@ -103,7 +123,7 @@ def main(words, usage):
         print(usage.strip())
         return 0
     if not words:
-        tried = [of_suite(), of_stored(), of_wrong_scripts(), of_audits(), audits.of_sentences()]
+        tried = [of_suite(), of_stored(), of_wrong_scripts(), of_audits(), audits.of_sentences(), of_command()]
     elif words[0] == "--program" and 2 <= len(words) <= 4 and all(word.isdigit() for word in words[2:]):
         count, seed = [int(word) for word in words[2:]] + [5_000, 1][len(words) - 2:]
         tried = [of_program(words[1], count, seed)]

@@ -73,7 +73,7 @@ ROWS = (
     ("a value with a space", change(b"=v1", b"=v 1"), "8 Trailing", "A word stands behind the value"),
     ("no value", change(b" =v1", b""), "8 Missing", "The word VALUE is missing"),
     ("a path without `/`", change(b"group /a 5", b"group a 5"), "3 BadPath", "A path begins with `/`: `/a`."),
-    ("an undeclared group", change(b"get /a/b", b"get /b"), "9 UnknownGroup", "No group `/b` is declared. The nearest is"),
+    ("an undeclared group", change(b"get /a/b", b"get /b"), "9 UnknownGroup", "No group `/b` is declared. The nearest is `/a/b`, of line 4."),
     ("an undeclared cache", change(b"inode k2", b"inod k2"), "9 UnknownCache",
      "No cache `inod` is declared. The nearest is `inode`, of line 6."),
     ("a child before its parent", change(b"group /a 5\ngroup /a/b max", b"group /a/b max\ngroup /a 5"), "3 NoParent",
