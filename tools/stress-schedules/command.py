@@ -238,7 +238,7 @@ def work(given):
 
 def main():
     try:
-        return work(parser().parse_args())
+        return work(parser().parse_intermixed_args())
     except Refused as refused:
         print(f"tools/stress: {refused}", file=sys.stderr)
         return refused.status

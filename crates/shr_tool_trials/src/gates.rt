@@ -1,7 +1,7 @@
 //! Gates: an open one, one that counts, and one at which two workers meet.
 
+use crossbeam_utils::atomic::AtomicCell;
 use shr_outside::outside::Gate;
-use std::sync::atomic::{AtomicU64, Ordering};
 
 /// A gate that lets each command through. Our own.
 pub(crate) struct Open;
@@ -13,67 +13,64 @@ impl Gate for Open {
 /// A gate that counts its calls and adds up their numbers. Our own.
 #[derive(Drop)]
 pub(crate) struct Counting {
-    calls: AtomicU64,
-    numbers: AtomicU64,
+    calls: AtomicCell<u64>,
+    numbers: AtomicCell<u64>,
 }
 
 impl Counting {
     /// No call yet. Our own.
     pub(crate) fn new() -> Counting {
         Counting {
-            calls: AtomicU64::new(0),
-            numbers: AtomicU64::new(0),
+            calls: AtomicCell::new(0),
+            numbers: AtomicCell::new(0),
         }
     }
 
     /// How often it was called, and the sum of the numbers. Our own.
     pub(crate) fn seen(&self) -> (u64, u64) {
-        (
-            self.calls.load(Ordering::SeqCst),
-            self.numbers.load(Ordering::SeqCst),
-        )
+        (self.calls.load(), self.numbers.load())
     }
 }
 
 impl Gate for Counting {
     fn before(&self, worker: u16, command: u32) {
-        self.calls.fetch_add(1, Ordering::SeqCst);
+        self.calls.fetch_add(1);
         self.numbers
-            .fetch_add(worker as u64 * 1000 + command as u64, Ordering::SeqCst);
+            .fetch_add(worker as u64 * 1000 + command as u64);
     }
 }
 
 // How often a worker looks for the other's flag before it gives up.
 const TURNS: u32 = 100_000_000;
 
-/// A gate at which each of two workers waits for the other, before its second command. Our own.
+/// A gate at which each of two workers waits for the other, before its second command.
 #[derive(Drop)]
 pub(crate) struct Meeting {
-    first: AtomicU64,
-    second: AtomicU64,
-    alone: AtomicU64,
+    first: AtomicCell<bool>,
+    second: AtomicCell<bool>,
+    alone: AtomicCell<u64>,
 }
 
 impl Meeting {
-    /// Neither worker has come. Our own.
+    /// Neither worker has come.
     pub(crate) fn new() -> Meeting {
         Meeting {
-            first: AtomicU64::new(0),
-            second: AtomicU64::new(0),
-            alone: AtomicU64::new(0),
+            first: AtomicCell::new(false),
+            second: AtomicCell::new(false),
+            alone: AtomicCell::new(0),
         }
     }
 
-    /// How many workers gave up. Our own.
+    /// How many workers gave up.
     pub(crate) fn alone(&self) -> u64 {
-        self.alone.load(Ordering::SeqCst)
+        self.alone.load()
     }
 }
 
-fn meets(mine: &AtomicU64, other: &AtomicU64) -> bool {
-    mine.store(1, Ordering::SeqCst);
+fn meets(mine: &AtomicCell<bool>, other: &AtomicCell<bool>) -> bool {
+    mine.store(true);
     for _ in 0..TURNS {
-        if other.load(Ordering::SeqCst) == 1 {
+        if other.load() {
             return true;
         }
     }
@@ -91,7 +88,7 @@ impl Gate for Meeting {
             meets(&self.second, &self.first)
         };
         if !met {
-            self.alone.fetch_add(1, Ordering::SeqCst);
+            self.alone.fetch_add(1);
         }
     }
 }
