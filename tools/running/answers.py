@@ -5,6 +5,7 @@ import subprocess
 import tempfile
 
 from running.cases import TOP
+from running.schedules import by_seeds, scheduled
 
 NOISE = (b"interpreter: ", b"checked: ", b"races: ", b"run=")
 
@@ -27,16 +28,26 @@ def audit_fault(command, script, report):
     return None
 
 
-def by_command(command, cases):
-    """Asks a program. It audits each report that comes, too."""
+def by_command(command, cases, complain):
+    """Asks a program. It audits each report that comes, too. Cases of several runs are run by seeds if that can be had."""
+    program = scheduled(command, complain)
     for case in cases:
-        fault = None
-        for _ in range(case.runs()):
-            status, output = ask(command, case.words, case.input)
-            fault = fault or case.fault(status, output)
-            if not fault and case.words == ["run"] and output.startswith(b"report "):
-                fault = audit_fault(command, case.input, output)
-        yield case, fault
+        if program and case.runs() > 1:
+            yield case, by_seeds(program, case, lambda script, report: audit_fault(command, script, report))
+        else:
+            yield case, plainly(command, case)
+
+
+def plainly(command, case):
+    """What is wrong with the answers to a case whose threads run as they will, or None."""
+    for _ in range(case.runs()):
+        status, output = ask(command, case.words, case.input)
+        fault = case.fault(status, output)
+        if not fault and case.words == ["run"] and output.startswith(b"report "):
+            fault = audit_fault(command, case.input, output)
+        if fault:
+            return fault
+    return None
 
 
 def write_cases(folder, cases):
