@@ -21,6 +21,7 @@ class Progress:
         self.stream = stream or sys.stderr
         self.is_terminal = self.stream.isatty()
         self.what = ""
+        self.tell = lambda: self.what
         self.begun = time.monotonic()
         self.lock = threading.Lock()
         self.ended = threading.Event()
@@ -44,14 +45,19 @@ class Progress:
         with self.lock:
             self.what = what
 
+    def ask(self, tell):
+        """From now on a call says what is done."""
+        self.tell = tell
+
     def tick(self):
         while not self.ended.wait(1 if self.is_terminal else EVERY):
             with self.lock:
-                if self.what:
-                    self.show()
+                what = self.tell()
+                if what:
+                    self.show(what)
 
-    def show(self):
-        line = f"{self.name}: {self.what}, {spell(self.elapsed())} so far"
+    def show(self, what):
+        line = f"{self.name}: {what}, {spell(self.elapsed())} so far"
         self.write(f"\r\033[K{line}" if self.is_terminal else f"{line}\n")
         self.shown = self.is_terminal
 

@@ -1,0 +1,47 @@
+"""Programs that end when the one that started them ends, however that is."""
+
+import contextlib
+import ctypes
+import os
+import signal
+import subprocess
+
+SIGNALS = (signal.SIGINT, signal.SIGTERM, signal.SIGHUP)
+PR_SET_PDEATHSIG = 1
+
+
+class Failed(Exception):
+    """Why a build gave nothing."""
+
+
+def raise_exit(number, _):
+    raise SystemExit(128 + number)
+
+
+@contextlib.contextmanager
+def ends_quietly():
+    """A signal ends this program by an exception, so that what it made is removed; so does the end of its parent."""
+    for number in SIGNALS:
+        signal.signal(number, raise_exit)
+    parent = os.getppid()
+    with contextlib.suppress(OSError):
+        ctypes.CDLL(None).prctl(PR_SET_PDEATHSIG, signal.SIGTERM)
+    if os.getppid() != parent:
+        raise SystemExit(1)
+    yield
+
+
+@contextlib.contextmanager
+def started(words, **how):
+    """A program in a process group of its own, which is killed at the end."""
+    child = subprocess.Popen(words, start_new_session=True, stdin=subprocess.DEVNULL, **how)
+    try:
+        yield child
+    finally:
+        for number in SIGNALS:
+            signal.signal(number, signal.SIG_IGN)
+        with contextlib.suppress(OSError):
+            os.killpg(child.pid, signal.SIGKILL)
+        child.wait()
+        for number in SIGNALS:
+            signal.signal(number, raise_exit)
