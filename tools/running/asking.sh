@@ -15,6 +15,11 @@ clean() {
 # A signal ends the child, removes what was made, and ends this too.
 stop() {
     trap '' HUP INT TERM
+    # The child was started, and its number isn't noted yet.
+    if [ "$child" = starting ]; then
+        child=${!-}
+        [ "$child" != "$before" ] || child=
+    fi
     if [ -n "$child" ]; then
         kill "$child" 2> /dev/null
         wait "$child" 2> /dev/null
@@ -32,6 +37,8 @@ if [ -e /proc/self/fd/0 ]; then exec 3<&0; else exec 3< /dev/null; fi
 
 # Runs a command so that a signal ends both.
 watched() {
+    before=${!-}
+    child=starting
     "$@" <&3 3<&- 4<&- &
     child=$!
     wait "$child"

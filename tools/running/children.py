@@ -14,8 +14,23 @@ class Failed(Exception):
     """Why a build gave nothing."""
 
 
+class Held:
+    """A signal that comes while a program is being started, or ended, waits until that is done."""
+
+    is_held = False
+    number = None
+
+    @classmethod
+    def release(cls):
+        cls.is_held = False
+        if cls.number:
+            raise SystemExit(128 + cls.number)
+
+
 def raise_exit(number, _):
-    raise SystemExit(128 + number)
+    Held.number = number
+    if not Held.is_held:
+        raise SystemExit(128 + number)
 
 
 @contextlib.contextmanager
@@ -34,14 +49,16 @@ def ends_quietly():
 @contextlib.contextmanager
 def started(words, **how):
     """A program in a process group of its own, which is killed at the end."""
-    child = subprocess.Popen(words, start_new_session=True, stdin=subprocess.DEVNULL, **how)
+    Held.is_held = True
+    child = None
     try:
+        child = subprocess.Popen(words, start_new_session=True, stdin=subprocess.DEVNULL, **how)
+        Held.release()
         yield child
     finally:
-        for number in SIGNALS:
-            signal.signal(number, signal.SIG_IGN)
-        with contextlib.suppress(OSError):
-            os.killpg(child.pid, signal.SIGKILL)
-        child.wait()
-        for number in SIGNALS:
-            signal.signal(number, raise_exit)
+        Held.is_held = True
+        if child:
+            with contextlib.suppress(OSError):
+                os.killpg(child.pid, signal.SIGKILL)
+            child.wait()
+        Held.is_held = False

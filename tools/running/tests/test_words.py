@@ -1,5 +1,7 @@
 """Which words ./shrinkers takes, and what it says of the others. Without a program, so a build would show."""
 
+import os
+
 from running.tests.pretended import Pretended
 
 WRONG = [
@@ -75,6 +77,9 @@ class Words(Pretended):
         changes = [
             lambda: self.write("top/crates/shrinkers/src/main.rt", "fn main() { }\n"),
             lambda: self.write("top/crates/shrinkers/src/more.rt", ""),
+            lambda: self.write("top/crates/shrinkers/proofs/more/Answers.antt", ""),
+            lambda: os.rename(f"{self.top}/crates/shrinkers/src/more.rt", f"{self.top}/crates/shrinkers/src/other.rt"),
+            lambda: os.remove(f"{self.top}/crates/shrinkers/src/other.rt"),
             lambda: self.write("top/crates.txt", "shrinkers: other\n"),
             lambda: self.write("top/crates/shrinkers/out/shrinkers", "#!/bin/sh\n", 0o755),
             lambda: self.write("kit/bin/rt", RT_OF_ANOTHER_DAY, 0o755),
@@ -84,6 +89,15 @@ class Words(Pretended):
             self.assertEqual([0, 0], [self.ask("--built")[0], self.ask("--built")[0]])
             change()
             self.assertEqual(1, self.ask("--built")[0])
+
+    def test_checksums_are_computed_again_only_after_a_change(self):
+        self.prove()
+        self.assertEqual(0, self.ask("--built")[0])
+        self.write("sum/sha256sum", "#!/bin/sh\nexit 1\n", 0o755)
+        self.environment["PATH"] = f"{self.folder}/sum:{self.environment['PATH']}"
+        self.assertEqual(0, self.ask("--built")[0])
+        self.write("top/crates/shrinkers/src/main.rt", "fn main() {}\n")
+        self.assertEqual(1, self.ask("--built")[0])
 
     def test_a_touched_file_is_no_change(self):
         self.prove()
