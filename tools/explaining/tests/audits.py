@@ -6,6 +6,7 @@ import random
 import re
 from collections import Counter
 
+from explaining import readings
 from explaining.case import Case
 from explaining.laws import LAWS, first_broken
 from explaining.line_words import NotReport
@@ -17,6 +18,16 @@ from explaining.tests.answers import HERE, SUITE, TOP, bytes_of, say
 from explaining.verdicts import of_input, parted
 
 SMALL, STORED, MOST_OF_ONE = 1_600, 400, 60
+# An input, a name of readings.py, and the verdicts where it is False and where it is True.
+READINGS = (
+    ("cited-place-not-there", "CITED_PLACES_ARE_THERE", ("unlawful L2", "unlawful L1")),
+    ("done-of-no-group", "DONE_GROUPS_ARE_THERE", ("unlawful L6", "unlawful L2")),
+    ("attempt-of-no-id", "WALKS_ARE_THERE", ("unlawful L5", "unlawful L4")),
+    ("worn-of-no-id", "WALKS_ARE_THERE", ("unlawful L9", "unlawful L4")),
+    ("sweep-of-no-group", "WALKS_ARE_THERE", ("unlawful L12", "unlawful L4")),
+    ("held-beyond-lookups", "HELD_BY_REGISTRATION_ALONE", ("unlawful L4", "unlawful L5")),
+    ("made-cited-twice", "MADE_IS_CITED_ONCE", ("lawful", "unlawful L9")),
+)
 
 
 def verdict(data):
@@ -66,6 +77,22 @@ def rows_to_store(program):
             counts[kind] += 1
             rows.append((data, said))
     return rows
+
+
+def of_readings():
+    """Each reading of the laws that may be switched, with an input of tests/readings that shows both."""
+    bad = 0
+    for name, reading, wanted in READINGS:
+        data, now = bytes_of(f"{HERE}/readings/{name}.input"), getattr(readings, reading)
+        for value, verdict_then in zip((False, True), wanted):
+            setattr(readings, reading, value)
+            got = verdict(data)
+            if got != verdict_then:
+                bad += 1
+                say(f"explain-test: {name} with {reading} {value}: wanted `{verdict_then}`, got `{got}`")
+        setattr(readings, reading, now)
+    print(f"readings of laws: {len(READINGS)} tried, {bad} differ")
+    return not bad
 
 
 def fields_of_page():

@@ -123,7 +123,8 @@ def main(words, usage):
         print(usage.strip())
         return 0
     if not words:
-        tried = [of_suite(), of_stored(), of_wrong_scripts(), of_audits(), audits.of_sentences(), of_command()]
+        tried = [of_suite(), of_stored(), of_wrong_scripts(), of_audits(), audits.of_sentences(), audits.of_readings()]
+        tried.append(of_command())
     elif words[0] == "--program" and 2 <= len(words) <= 4 and all(word.isdigit() for word in words[2:]):
         count, seed = [int(word) for word in words[2:]] + [5_000, 1][len(words) - 2:]
         tried = [of_program(words[1], count, seed)]
