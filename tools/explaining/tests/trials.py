@@ -82,7 +82,7 @@ def of_wrong_scripts():
 
 def of_command():
     """The statuses of the command, and that it says no more than ten lines and nothing of Python's."""
-    first, data = f"{TOP}/examples/first", f"{TOP}/crates/shr_suite/data"
+    first, data = f"{TOP}/examples/first", f"{TOP}/suite"
     rows = (
         (0, [f"{first}.script"]), (0, [f"{first}.script", f"{first}.report"]), (5, [f"{first}.script", f"{first}.script"]),
         (8, ["--audit", f"{data}/audit-bits-lost.script"]), (5, [f"{data}/refused-missing.script"]), (5, ["/dev/null"]),

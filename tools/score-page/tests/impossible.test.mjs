@@ -12,7 +12,7 @@ import {Graph, order} from '../order.mjs';
 import {chance} from './many.mjs';
 
 const here = new URL('./impossible/', import.meta.url),
-      suite = new URL('../../../crates/shr_suite/data/', import.meta.url);
+      suite = new URL('../../../suite/', import.meta.url);
 
 const CYCLE = /There is no order of these steps\. The shortest cycle:/;
 const SAID = {
