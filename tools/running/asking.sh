@@ -21,7 +21,8 @@ stop() {
         [ "$child" != "$before" ] || child=
     fi
     if [ -n "$child" ]; then
-        kill "$child" 2> /dev/null
+        # Between its start and its first step a child may miss a signal. It is gone, or waits to be waited for, without `exe`.
+        while kill "$child" 2> /dev/null && [ -e "/proc/$child/exe" ]; do sleep 0.1; done
         wait "$child" 2> /dev/null
     fi
     clean
@@ -164,25 +165,25 @@ serve_run() {
         [ $# -gt 0 ] || wrong "run: -o wants scripts behind the folder"
     fi
     judge_files "$@"
-    first=0
+    worst=0
     if [ $# -eq 0 ]; then set -- -; fi
     for file in "$@"; do
         # A file that isn't there is told before a build.
-        open_file "$file" || { first=$?; [ $# -gt 1 ] || exit "$first"; }
+        open_file "$file" || { worst=$?; [ $# -gt 1 ] || exit "$worst"; }
     done
     if [ -n "$folder" ]; then mkdir -p "$folder" || exit 4; fi
-    choose
+    choose run
     exec 4<&3
     for file in "$@"; do
         exec 3<&4
         if [ -n "$folder" ]; then run_into "$file"; else run_file "$file"; fi
-        [ "$first" -ne 0 ] || first=$status
+        [ "$worst" -ne 0 ] || worst=$status
     done
-    exit "$first"
+    exit "$worst"
 }
 
 serve_gen() {
-    choose
+    choose gen
     watched "$chosen" gen "$@"
     status=$?
     tell "gen $*" gen "$status"
@@ -234,14 +235,14 @@ serve_audit() {
     done
     if [ $# -eq 0 ]; then
         name="standard input"
-        choose
+        choose audit
         await "a script and a report"
         keep_input "$LONGEST_AUDIT"
         audit_input
     fi
     [ "$1$2" != -- ] || wrong "audit: - stands for one of the two files"
     name="$1 and $2"
-    choose
+    choose audit
     join_files "$@"
     if [ -f "$1" ] && [ -f "$2" ]; then audit_input "$@"; else audit_input; fi
 }

@@ -1,23 +1,24 @@
 # shellcheck shell=sh
 # The built programs of ./shrinkers, and whether they are of the sources as they stand. Sourced by ./shrinkers.
 #
-# crates/shrinkers/out/shrinkers is the proved program, and out/quick/shrinkers the same sources without their proofs. Beside each
-# stands `built-from`, with the checksum of what it was built from and that of the program, and `seen`, which was touched
+# crates/shrinkers/out/shrinkers is the proved program, out/quick/shrinkers the same sources without their proofs, and
+# out/first/shrinkers these without `audit`, which is built sooner. Beside each stands `built-from` (of the first in out/proved), with the checksum of what it was built from and that of the program, and `seen`, which was touched
 # before these were last compared. If no file has changed since, the two checksums need not be computed again.
 
 # shellcheck disable=SC2154
 crate=$top/crates/shrinkers
 proved=$crate/out/shrinkers
 quick=$crate/out/quick/shrinkers
+first=$crate/out/first/shrinkers
 
 # The folder of a program's stamp.
 stamps_of() {
-    [ "$1" = "$quick" ] && echo "$crate/out/quick" || echo "$crate/out/proved"
+    [ "$1" = "$proved" ] && echo "$crate/out/proved" || echo "${1%/*}"
 }
 
 # The parts of a crate that a program is built from.
 parts_of() {
-    [ "$1" = "$quick" ] && echo src || echo src specs proofs
+    [ "$1" = "$proved" ] && echo src specs proofs || echo src
 }
 
 # The program's crate and all that it stands on, in the order of crates.txt.
@@ -104,19 +105,27 @@ prove() {
     mark "$proved" "$now"
 }
 
-build_quick() {
-    now=$(sources_of "$quick")
-    watched "$top/tools/build" quick "$quick" || exit
-    mark "$quick" "$now"
+# Builds a program without its proofs; $1 is `first` or `quick`.
+build_unproved() {
+    chosen=$crate/out/$1/shrinkers
+    now=$(sources_of "$chosen")
+    watched "$top/tools/build" "$1" "$chosen" || exit
+    mark "$chosen" "$now"
 }
 
-# Sets `chosen` to the program that answers. Without a proved one it is built without proofs, if it isn't yet.
+# Sets `chosen` to the program that answers a form. If there is no proved one, it is built without proofs, and kept.
 choose() {
     chosen=$proved
     is_fresh "$proved" && return
-    chosen=$quick
     echo "shrinkers: not proved on this machine; './shrinkers --prove' proves and builds the program, which takes hours" >&2
-    is_fresh "$quick" || build_quick
+    chosen=$quick
+    is_fresh "$quick" && return
+    case $1 in
+        run | gen)
+            chosen=$first
+            is_fresh "$first" || build_unproved first ;;
+        *) build_unproved quick ;;
+    esac
 }
 
 state_of() {
@@ -130,6 +139,7 @@ show_version() {
     echo "kit: $(rt version 2> /dev/null || echo 'none, rt is missing')"
     echo "proved program: $(state_of "$proved")"
     echo "program without proofs: $(state_of "$quick")"
+    echo "program without proofs and audit: $(state_of "$first")"
 }
 
 show_built() {
@@ -149,7 +159,7 @@ serve_own() {
         --built) show_built ;;
         --version | -V) show_version ;;
         --sources) sources_of "$proved" ;;
-        --suite) choose; watched "$top/tools/suite" "$chosen"; exit ;;
-        --check) choose; watched "$top/tools/suite" --few "$chosen"; exit ;;
+        --suite) choose suite; watched "$top/tools/suite" "$chosen"; exit ;;
+        --check) choose check; watched "$top/tools/suite" --few "$chosen"; exit ;;
     esac
 }

@@ -28,6 +28,9 @@ class Held:
 
 
 def raise_exit(number, _):
+    """Ends the program at the first signal; what comes later must not disturb the end."""
+    if Held.number:
+        return
     Held.number = number
     if not Held.is_held:
         raise SystemExit(128 + number)

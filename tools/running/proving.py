@@ -6,7 +6,7 @@ import re
 from running.cases import TOP
 from running.children import Failed, started
 from running.progress import Progress, spell
-from running.translating import kit
+from running.translating import kit, program_of
 
 CRATE = f"{TOP}/crates/shrinkers"
 PROGRAM = f"{CRATE}/out/shrinkers"
@@ -49,8 +49,7 @@ class Work:
 
 def build_proved():
     _, module = kit()
-    os.chdir(CRATE)
-    program = next(it for it in module.crates_below(TOP).values() if it.name == "shrinkers")
+    program = program_of(module)
     work = Work({it.name: weight_of(it.folder) for it in [*program.below(), program]})
     os.makedirs(f"{CRATE}/out", exist_ok=True)
     with Progress("shrinkers") as progress, open(LOG, "w", encoding="utf-8") as log:

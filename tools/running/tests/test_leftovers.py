@@ -60,4 +60,4 @@ class Leftovers(Pretended):
             else:
                 self.end(child, number, pid)
             os.remove(f"{self.folder}/pid")
-        self.assertFalse(os.path.exists(f"{self.top}/crates/shrinkers/out/quick/shrinkers"))
+        self.assertFalse(os.path.exists(f"{self.top}/crates/shrinkers/out/first/shrinkers"))
