@@ -26,6 +26,11 @@ export function listen(page) {
     event.preventDefault();
     page.zoom_to(page.view.zoom * Math.exp(-event.deltaY / 300), place(event)[0]);
   }, {passive: false});
+  listen_around(page);
+}
+
+// The keys, the search, the files, the buttons, and the window.
+function listen_around(page) {
   document.addEventListener('keydown', event => page.key(event));
   part('search').addEventListener('input', event => page.search(event.target.value.trim()));
   part('files').addEventListener('change', async event => {
