@@ -1,1 +1,3 @@
 pub mod Trimming
+pub mod Bounded
+pub mod Squeezing

@@ -1,4 +1,8 @@
-//! Callers of the parts, as `docs/LIBRARY.md` describes them: what a program of one's own may copy. Our own.
+//! Callers of the parts, as `docs/LIBRARY.md` describes them: what a program of one's own may copy.
 #![tactic(auto)]
 
+pub mod bounded;
 pub mod recent;
+pub mod spares;
+#[cfg(test)]
+mod tests;

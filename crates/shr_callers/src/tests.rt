@@ -1,0 +1,63 @@
+//! The callers at known values.
+
+use crate::bounded::{Added, Cache};
+use crate::spares::{Spares, squeeze};
+use shr_base::text::Text;
+use shr_list::answers::LookAnswer;
+use shr_simple::passes::Pass;
+use std::alloc::Global;
+use std::test::Fail;
+
+const KEYS: [&[u8]; 3] = [b"a", b"b", b"c"];
+
+// Adds an object of this key.
+fn add(alloc: Global, cache: &mut Cache, key: &[u8]) -> Result<Added, Fail> {
+    Ok(cache.add(Text::of(alloc, key)?, Text::of(alloc, b"v")?))
+}
+
+// Whether an object of this key is there, which marks it.
+fn has(alloc: Global, cache: &mut Cache, key: &[u8]) -> Result<bool, Fail> {
+    let key = Text::of(alloc, key)?;
+    match cache.look(&key) {
+        LookAnswer::Hit { .. } => Ok(true),
+        _ => Ok(false),
+    }
+}
+
+#[test]
+fn the_oldest_goes_and_a_look_spares_once(rt: HostRuntime) -> Result<(), Fail> {
+    let mut cache = Cache::new(rt.alloc(), 2);
+    for key in KEYS {
+        let added = add(rt.alloc(), &mut cache, key)?;
+        assert_eq!(rt; added, Added::Done);
+    }
+    let again = add(rt.alloc(), &mut cache, b"c")?;
+    let first = has(rt.alloc(), &mut cache, b"a")?;
+    let last = has(rt.alloc(), &mut cache, b"c")?;
+    let freed = cache.trim(2);
+    assert_eq!(rt;
+        (again, first, last, freed),
+        (Added::Exists, false, true, Some(0))
+    );
+    Ok(())
+}
+
+#[test]
+fn a_mild_pass_frees_a_batch(rt: HostRuntime) -> Result<(), Fail> {
+    let mut buffers = Vec::new(rt.alloc());
+    for _turn in 0..300 {
+        buffers.push(Vec::new(rt.alloc()))?;
+    }
+    let mut spares = Spares { buffers };
+    let pass = Pass {
+        len: 300,
+        calls: 1,
+        asked: 128,
+        freed: 128,
+        next: 22,
+        stopped: false,
+    };
+    let squeezed = squeeze(&mut spares, 0);
+    assert_eq!(rt; squeezed, Some(pass));
+    Ok(())
+}
