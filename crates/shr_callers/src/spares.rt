@@ -1,6 +1,6 @@
 //! A pass over a shrinker of one's own: buffers that are kept for later use.
 
-ghost use Rattle.std.specs.Prelude.{◌≡◌, ◌+◌, ◌≤◌, vec_len, IfSome};
+ghost use Rattle.std.specs.Prelude.{◌≡◌, ◌+◌, ◌<◌, ◌≤◌, vec_len, IfSome, IfNone};
 ghost use Rattle.shr_simple.specs.Losing.{Loses, loses_none, loses_then};
 ghost use Rattle.shr_simple.specs.Passes.{IsPass, freed_of};
 ghost use Rattle.shr_callers.specs.Squeezing.{mild};
@@ -13,6 +13,19 @@ use shr_simple::simple::Simple;
 pub struct Spares {
     pub buffers: Vec<Vec<u8>>,
     ghost few: { vec_len buffers ≤ 1048576 },
+}
+
+impl Spares {
+    /// These buffers; `None` if they are more than a pass can count.
+    pub fn of(buffers: Vec<Vec<u8>>) -> Option<Spares>
+        ensures all { IfSome result (λ s. s.buffers ≡ buffers) }
+        ensures many { IfNone result (1048576 < vec_len buffers) }
+    {
+        if buffers.len() > 1048576 {
+            return None;
+        }
+        Some(Spares { buffers })
+    }
 }
 
 impl Simple for Spares {

@@ -42,13 +42,20 @@ fn the_oldest_goes_and_a_look_spares_once(rt: HostRuntime) -> Result<(), Fail> {
     Ok(())
 }
 
+// What a first pass over this many empty buffers did.
+fn squeezed(alloc: Global, buffers: u32) -> Result<Option<Pass>, Fail> {
+    let mut kept = Vec::new(alloc);
+    for _turn in 0..buffers {
+        kept.push(Vec::new(alloc))?;
+    }
+    let Some(mut spares) = Spares::of(kept) else {
+        return Ok(None);
+    };
+    Ok(squeeze(&mut spares, 0))
+}
+
 #[test]
 fn a_mild_pass_frees_a_batch(rt: HostRuntime) -> Result<(), Fail> {
-    let mut buffers = Vec::new(rt.alloc());
-    for _turn in 0..300 {
-        buffers.push(Vec::new(rt.alloc()))?;
-    }
-    let mut spares = Spares { buffers };
     let pass = Pass {
         len: 300,
         calls: 1,
@@ -57,7 +64,7 @@ fn a_mild_pass_frees_a_batch(rt: HostRuntime) -> Result<(), Fail> {
         next: 22,
         stopped: false,
     };
-    let squeezed = squeeze(&mut spares, 0);
+    let squeezed = squeezed(rt.alloc(), 300)?;
     assert_eq!(rt; squeezed, Some(pass));
     Ok(())
 }
