@@ -174,7 +174,8 @@ class Words(unittest.TestCase):
         self.assertEqual((status, out.splitlines()[-1]), (0, "1 of 1 races were made again"))
         self.assertIn("by its schedule and by its seed", out)
         self.assertIn("in another program", call("--again", folder, program=build("O0"))[1])
-        race = open(os.path.join(folder, "mixed.race"), encoding="ascii").read()
+        with open(os.path.join(folder, "mixed.race"), encoding="ascii") as file:
+            race = file.read()
         lines = [line if not line.startswith("schedule") else "schedule 1:99:0" for line in race.splitlines()]
         write("races/mixed.race", ("\n".join(lines) + "\n").encode())
         self.assertIn("found anew by seed", call("--again", folder, program=build("O0"))[1])
