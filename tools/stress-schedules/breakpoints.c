@@ -73,7 +73,7 @@ static void read_sites(const char *path) {
     if (!file)
         give_up(UNREADY, "the file of SHRINKERS_SITES can't be read");
     dl_iterate_phdr(program_base, NULL);
-    for (struct site *it = sites; fscanf(file, "%lx %d %c", &offset, &it->length, &it->kind) == 3; it++) {
+    for (struct site *it = sites; fscanf(file, "%lx %d %c %*s", &offset, &it->length, &it->kind) == 3; it++) {
         it->at = base + offset;
         if (++site_count == MOST_SITES)
             give_up(UNREADY, "too many atomic instructions");

@@ -67,7 +67,7 @@ def parser():
         formatter_class=argparse.RawDescriptionHelpFormatter, allow_abbrev=False,
     )
     it.add_argument("script", nargs="?", metavar="SCRIPT")
-    it.add_argument("runs", nargs="?", type=number, metavar="RUNS", help="how many runs at most (1,000; by --shrink 300 for each script)")
+    it.add_argument("runs", nargs="?", type=number, metavar="RUNS", help="how many runs at most (1,000; 300 by --shrink)")
     it.add_argument("--bound", type=number, metavar="D", help="each schedule of at most D preemptions")
     it.add_argument("--free", action="store_true", help="plain runs: the threads run as they will")
     it.add_argument("--until", metavar="WINDOW", help="stop at the first run that shows it")
@@ -89,7 +89,8 @@ def checked(given):
     modes = [it for it in ("free", "bound", "seed", "schedule", "again") if getattr(given, it) not in (None, False)]
     ends = [it for it in ("until", "shrink", "race", "seed", "schedule", "again") if getattr(given, it) is not None]
     if len(modes) > 1 or len(ends) > 1:
-        raise Refused(f"--{(modes if len(modes) > 1 else ends)[0]} and --{(modes if len(modes) > 1 else ends)[1]} don't go together", 2)
+        both = modes if len(modes) > 1 else ends
+        raise Refused(f"--{both[0]} and --{both[1]} don't go together", 2)
     if given.again is None and given.script is None:
         raise Refused("a script is wanted; --help says the forms", 2)
     if given.again is not None and given.script is not None:
@@ -117,7 +118,8 @@ def count_outcomes(given, program, script):
     for plan, run in found:
         seen = tally.add(plan, run)
         of = f"{bounded.known:,} or more" if bounded else f"{runs:,}"
-        progress.say(f"{tally.runs:,} runs of {of}, {counted(len(tally.outcomes), 'outcome')}, {counted(len(tally.windows), 'window')}")
+        outcomes, windows = counted(len(tally.outcomes), "outcome"), counted(len(tally.windows), "window")
+        progress.say(f"{tally.runs:,} runs of {of}, {outcomes}, {windows}")
         is_found = bool(goal and seen and goal.is_met(seen))
         if is_found or tally.runs == runs:
             break
@@ -136,7 +138,8 @@ def print_tally(given, tally, bounded, program):
     for line in tally.lines(bounded):
         print(line)
     if not given.free:
-        print(f"switched at {len(program.names)} atomic instructions, at the making and the end of threads, and at waits; not between plain loads and stores")
+        count = counted(len(program.names), "atomic instruction")
+        print(f"switched at {count}, at the making and the end of threads, and at waits; not between plain loads and stores")
     if given.keep:
         print(f"{counted(tally.keep(given.keep), 'report')} in {given.keep}")
 
@@ -158,7 +161,8 @@ def run_again(given, program, script):
         print(f"{counted(run.unused, 'switch')} of the schedule couldn't be made", file=sys.stderr)
     print(f"schedule {spell(run.schedule)}", file=sys.stderr)
     seen = Seen(program, script, run)
-    print(f"windows: {' '.join(seen.windows) or 'none'}; the auditor says: {program.audit(script.text(), run.report)}", file=sys.stderr)
+    verdict = program.audit(script.text(), run.report)
+    print(f"windows: {' '.join(seen.windows) or 'none'}; the auditor says: {verdict}", file=sys.stderr)
     return 1 if run.unused else 0
 
 

@@ -1,5 +1,6 @@
 """The built program under a scheduler: where it is, its atomic instructions, and one run by a plan."""
 
+import atexit
 import hashlib
 import os
 import platform
@@ -120,7 +121,9 @@ def cache_folder():
             return folder
     except OSError:
         pass
-    return tempfile.mkdtemp(prefix="shrinkers-stress-")
+    folder = tempfile.mkdtemp(prefix="shrinkers-stress-")
+    atexit.register(shutil.rmtree, folder, True)
+    return folder
 
 
 def is_site(words, where):
@@ -141,7 +144,7 @@ def find_sites(path):
             where = found[1]
         elif (found := INSTRUCTION.match(line)) and is_site(found[3], where):
             kind = "c" if "cmpxchg" in found[3] else "s"
-            sites.append(Site(int(found[1], 16), len(found[2].split()), kind, where.replace(" ", "_")))
+            sites.append(Site(int(found[1], 16), len(found[2].split()), kind, where.replace(" ", "_") or "-"))
     if not sites:
         raise Refused(f"{path} has no atomic instruction to switch at")
     return sorted(sites)
@@ -161,9 +164,8 @@ class Program:
         self.sum = sum_of(read(path))
         self.folder = cache_folder()
         self.library = self.kept("scheduler-" + sum_of(*(read(os.path.join(HERE, it)) for it in SOURCES)) + ".so", self.build)
-        self.sites_file = self.kept(f"sites-{self.sum}", self.write_sites)
-        lines = read(self.sites_file + ".names").decode().splitlines()
-        self.names = lines
+        self.sites_file = self.kept(f"atomics-{self.sum}", self.write_sites)
+        self.names = [line.split(" ")[-1] for line in read(self.sites_file).decode().splitlines()]
 
     def kept(self, name, make):
         """A file of the cache, made first if it isn't there. It appears whole or not at all."""
@@ -182,10 +184,8 @@ class Program:
 
     def write_sites(self, path):
         sites = find_sites(self.path)
-        with open(os.path.join(self.folder, f"sites-{self.sum}.names"), "w", encoding="utf-8") as file:
-            file.write("".join(f"{it.where}\n" for it in sites))
-        with open(path, "w", encoding="ascii") as file:
-            file.write("".join(f"{it.offset:x} {it.length} {it.kind}\n" for it in sites))
+        with open(path, "w", encoding="utf-8") as file:
+            file.write("".join(f"{it.offset:x} {it.length} {it.kind} {it.where}\n" for it in sites))
 
     def run(self, script, plan, traced=False):
         """One run of a script by a plan: a seed, a schedule, or FREE for threads that run as they will."""
@@ -199,7 +199,8 @@ class Program:
             added.update({"SHRINKERS_TRACE": "1"} if traced else {})
         try:
             done = subprocess.run(
-                [self.path, "run"], input=script, capture_output=True, timeout=self.seconds + 10, env={**os.environ, **added}, check=False
+                [self.path, "run"], input=script, capture_output=True, timeout=self.seconds + 10,
+                env={**os.environ, **added}, check=False,
             )
         except subprocess.TimeoutExpired:
             return Run(97, b"", 0, (), [], (), 0, f"no end in {self.seconds + 10} seconds")

@@ -58,7 +58,8 @@ class Race:
         if found is None:
             return False, f"not found by {SEEDS:,} seeds and {SCHEDULES:,} schedules of at most two preemptions"
         report, why = self.twice(program, found)
-        return report is not None, why or f"the stored schedule doesn't fit this program; found anew by {plan_name(found)}, twice the same bytes"
+        how = f"the stored schedule doesn't fit this program; found anew by {plan_name(found)}, twice the same bytes"
+        return report is not None, why or how
 
     def by_seed(self, program):
         """Whether the stored seed gives the same report in the program with which it was found."""
@@ -67,8 +68,9 @@ class Race:
         if self.seed is None:
             return True, "made again twice by its schedule, with the stored bytes"
         report, why = self.twice(program, self.seed)
-        same = report == self.report
-        return same, "made again twice by its schedule and by its seed, with the stored bytes" if same else why or "its seed gives another report"
+        if report == self.report:
+            return True, "made again twice by its schedule and by its seed, with the stored bytes"
+        return False, why or "its seed gives another report"
 
     def search(self, program):
         """A plan that shows the window in this program."""

@@ -5,7 +5,8 @@
 // calls. Between two steps a thread does what the memory that it reads tells it, so the same choices give the same bytes.
 //
 // The words of the environment:
-//   SHRINKERS_SITES     a file with a line `OFFSET LENGTH KIND` for each atomic instruction; KIND is c for compare and exchange
+//   SHRINKERS_SITES     a file with a line `OFFSET LENGTH KIND FUNCTION` for each atomic instruction; KIND is c for compare and
+//                       exchange
 //   SHRINKERS_WORKERS   how many workers the script has
 //   SHRINKERS_SEED      draw each choice from this seed, or
 //   SHRINKERS_SCHEDULE  switch as this list says: `WORKER:STEP:NEXT,..`; a thread that waits or ends gives its turn to the next
