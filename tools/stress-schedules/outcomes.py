@@ -80,7 +80,7 @@ class Tally:
         """The summary."""
         seconds = time.monotonic() - self.began
         workers = len(self.script.workers)
-        yield f"{self.name}: {counted(workers, 'worker')}, {counted(self.script.commands(), 'command')}; {self.runs:,} runs in {seconds:.1f} s"
+        yield f"{self.name}: {counted(workers, 'worker')}, {counted(self.script.commands(), 'command')}; {counted(self.runs, 'run')} in {seconds:.1f} s"
         if bounded:
             which = f"of at most {counted(bounded.bound, 'preemption')}"
             yield f"complete: each schedule {which}" if bounded.is_complete else f"not complete: some schedules {which}"

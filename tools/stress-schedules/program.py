@@ -225,7 +225,8 @@ class Program:
             elif line.startswith("scheduler: "):
                 reason = line[len("scheduler: "):]
         if done.returncode and not reason:
-            reason = f"status {done.returncode} {' '.join(said[:1])}".strip()
+            told = done.stdout.decode(errors="replace").splitlines()[:1] or [line for line in said[:1] if not counts]
+            reason = f"the program ended with status {done.returncode}" + "".join(f": {line}" for line in told)
         if plan != FREE and not counts and not reason:
             reason = "the scheduler wasn't loaded into the program"
         switches, unused = counts.get("switches", 0), counts.get("unused", 0)

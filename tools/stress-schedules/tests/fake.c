@@ -80,8 +80,10 @@ int main(int count, char **words) {
     }
     counter = calloc(1, sizeof *counter);
     read_script();
-    if (workers == 0)
+    if (getenv("FAKE_REFUSES")) {
+        puts("refused 3 BadWord");
         return 5;
+    }
     run_range(&(struct range){0, workers});
     write_report();
     return 0;

@@ -186,6 +186,13 @@ class Words(unittest.TestCase):
         self.assertEqual(status, 1)
         self.assertIn("FAULT: the report isn't lawful: unlawful L4 (seed 0)", out)
 
+    def test_a_refused_script_is_told(self):
+        path = write("empty.script", b"shrinkers 1\nsize 1 1\nworker\nend\n")
+        self.assertEqual(call(path, 1, program=self.fake)[0], 0)
+        status, out, _ = call(path, 1, program=self.fake, env={"FAKE_REFUSES": "1"})
+        self.assertEqual(status, 1)
+        self.assertIn("FAULT: the program ended with status 5: refused 3 BadWord (seed 0)", out)
+
     def test_other_words_are_refused(self):
         other = write("other.script", b"no script\n")
         for words in ((), ("nowhere",), (other,), (self.path, "x"), (self.path, "--until", "nothing"), (self.path, 0),
