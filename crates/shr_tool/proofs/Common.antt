@@ -18,6 +18,7 @@ pub use Rattle.shr_report.specs.Parts.{answer_at, answers_in, answers_of, comman
 pub use Rattle.shr_script.specs.Content.{Content, IsValid, content_of, spell}
 pub use Rattle.shr_script.specs.Script.{IsFault}
 pub use Rattle.shr_tool.specs.Audit.{AreOtherLines, AuditGives, HasEndLine, HasNoEnd, HasVerdict, IsBad, IsJudged, IsJudging, IsOtherLine, IsSplit, IsVerdictOf, IsInputWhole, JudgeGives, status_of, with_feeds}
-pub use Rattle.shr_tool.specs.Top.{AnswerGives, IsComplete, IsRefusing, RefusalGives, RunGives, SinkSeen, SourceSeen, refusal, refusal_text, source_seen}
+pub use Rattle.shr_tool.specs.Top.{AnswerGives, IsComplete, IsRefusing, RefusalGives, RunGives, SinkSeen, SourceSeen, refusal, refusal_text}
+pub use Rattle.shr_tool.specs.Traced.{TracedAnswer, TracedGives}
 pub use Rattle.shr_tool.specs.declared.status.Status.{Status}
 pub use Rattle.shr_tool.specs.declared.status.Status.TheVariants.{Done, Memory, ReadFault, Refused, TooLong, Unlawful, Usage, WriteFault}

@@ -1,5 +1,6 @@
 pub mod Reading
 pub mod Top
+pub mod Traced
 pub mod Audit
 pub mod Turns
 pub mod Summary

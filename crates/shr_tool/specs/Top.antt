@@ -14,7 +14,6 @@ use Rattle.shr_report.specs.Lawful.{IsLawful}
 use Rattle.shr_report.specs.Numbers.{HasNumbers}
 use Rattle.shr_report.specs.Puts.{AreFreePutsAdded}
 use Rattle.shr_report.specs.WellFormed.{IsWellFormed}
-use Rattle.shr_run.specs.Made.{IsReportOfRun}
 use Rattle.shr_tool.specs.Reading.{ReadAll, TookFew, TookTooMany, IsReadFault, script_limit}
 use Rattle.shr_outside.specs.Writing.{WrotePart}
 use Rattle.shr_tool.specs.declared.status.Status.{Status}
@@ -27,9 +26,9 @@ pub record SourceSeen : Type 0 where
   pub faults : ℕ
   pub faults_after : ℕ
 
--- of what a source tells before and after, and counts before and after
-abbrev pub source_seen : Option (List ℕ) → Option (List ℕ) → ℕ → ℕ → SourceSeen
-source_seen left left_after faults faults_after = record { left = left; left_after = left_after; faults = faults; faults_after = faults_after }
+-- of a source before and after, by what it tells to be left and how it counts its faults
+abbrev pub source_seen : {S : Type 0} → (S → Option (List ℕ)) → (S → ℕ) → S → S → SourceSeen
+source_seen left faults old new = record { left = left old; left_after = left new; faults = faults old; faults_after = faults new }
 
 -- what a sink tells and counts, before and after
 pub record SinkSeen : Type 0 where
@@ -38,9 +37,9 @@ pub record SinkSeen : Type 0 where
   pub faults : ℕ
   pub faults_after : ℕ
 
--- of what a sink tells before and after, and counts before and after
-abbrev pub sink_seen : Option (List ℕ) → Option (List ℕ) → ℕ → ℕ → SinkSeen
-sink_seen written written_after faults faults_after = record { written = written; written_after = written_after; faults = faults; faults_after = faults_after }
+-- of a sink before and after, by what it tells to be written and how it counts its faults
+abbrev pub sink_seen : {K : Type 0} → (K → Option (List ℕ)) → (K → ℕ) → K → K → SinkSeen
+sink_seen written faults old new = record { written = written old; written_after = written new; faults = faults old; faults_after = faults new }
 
 -- the name of a code
 abbrev pub code_name : Code → List ℕ
@@ -71,8 +70,7 @@ pub data IsTextOf : List ℕ → List ℕ → Type 0 where
 
 -- The source was read to its end, it gave the spelling of a valid script, and a lawful, faithful
 -- and well formed report was written, whose numbers have the ranges of their types. Each put that nothing was
--- in the way of was added, unless there was no memory or a counter was used up. It is the report of
--- tables that were opened for the script and ended after the logs of its workers.
+-- in the way of was added, unless there was no memory or a counter was used up.
 pub record IsDone (source : SourceSeen) (sink : SinkSeen) : Type 0 where
   pub script : Script
   pub report : Report
@@ -83,7 +81,6 @@ pub record IsDone (source : SourceSeen) (sink : SinkSeen) : Type 0 where
   pub well_formed : IsWellFormed report
   pub numbers : HasNumbers report
   pub puts : AreFreePutsAdded script report
-  pub made : IsReportOfRun script report
   pub written : Appends sink.written sink.written_after (text report)
 
 -- the source was read to its end, its bytes are refused at this line, and the refusal was written
@@ -121,45 +118,6 @@ RefusalGives line code sink WriteFault = Rose sink.faults sink.faults_after × W
 RefusalGives line code sink Memory = WritesNothing sink
 RefusalGives line code sink status = ⊥
 
--- the bytes spell a valid script, and its report was written
-pub record IsReported (bytes : List ℕ) (sink : SinkSeen) : Type 0 where
-  pub script : Script
-  pub report : Report
-  pub valid : IsValid (content_of script)
-  pub spelled : bytes ≡ spell (content_of script)
-  pub lawful : IsLawful script report
-  pub faithful : IsFaithful script report
-  pub well_formed : IsWellFormed report
-  pub numbers : HasNumbers report
-  pub puts : AreFreePutsAdded script report
-  pub made : IsReportOfRun script report
-  pub written : Appends sink.written sink.written_after (text report)
-
--- the bytes are refused at this line, and the refusal was written
-pub record IsToldRefused (bytes : List ℕ) (sink : SinkSeen) : Type 0 where
-  pub line : ℕ
-  pub code : Code
-  pub refused : IsFault bytes line code
-  pub written : Appends sink.written sink.written_after (refusal line code)
-
--- the sink failed in this call, and a prefix of the answer was written
-pub record IsCutShort (bytes : List ℕ) (sink : SinkSeen) : Type 0 where
-  pub rose : Rose sink.faults sink.faults_after
-  pub answer : List ℕ
-  pub text_of : IsTextOf bytes answer
-  pub part : WrotePart sink.written sink.written_after answer
-
--- an input that was read to its end is answered so
-abbrev pub AnswerGives : List ℕ → SinkSeen → Status → Type 0
-AnswerGives bytes sink Done = IsReported bytes sink
-AnswerGives bytes sink Usage = ⊥
-AnswerGives bytes sink ReadFault = ⊥
-AnswerGives bytes sink WriteFault = IsCutShort bytes sink
-AnswerGives bytes sink Refused = IsToldRefused bytes sink
-AnswerGives bytes sink Memory = WritesNothing sink
-AnswerGives bytes sink TooLong = ⊥
-AnswerGives bytes sink Unlawful = ⊥
-
 -- with the word `run`
 abbrev pub RunGives : SourceSeen → SinkSeen → Status → Type 0
 RunGives source sink Done = IsDone source sink
@@ -170,6 +128,11 @@ RunGives source sink Refused = IsRefused source sink
 RunGives source sink Memory = TookFew script_limit source.left source.left_after × WritesNothing sink
 RunGives source sink TooLong = TookTooMany script_limit source.left source.left_after × WritesNothing sink
 RunGives source sink Unlawful = ⊥
+
+-- Bytes that were read to the end of a source are answered so, whichever source it was.
+abbrev pub AnswerGives : List ℕ → SinkSeen → Status → Type 0
+AnswerGives bytes sink Memory = WritesNothing sink
+AnswerGives bytes sink status = (source : SourceSeen) → ReadAll script_limit source.left source.left_after bytes → RunGives source sink status
 
 -- with words of no form
 pub record UsageGives (source : SourceSeen) (sink : SinkSeen) (status : Status) : Type 0 where

@@ -71,8 +71,7 @@ fn status_of(verdict: Verdict) -> Status
 // Judges an input that was read to its end, and tells the verdict.
 fn judge<K: Sink>(alloc: Global, bytes: &[u8], sink: &mut K) -> Status
     ensures judged { JudgeGives bytes.now
-        (sink_seen (K.written sink.old) (K.written sink.new)
-        (K.faults sink.old) (K.faults sink.new)) result }
+        (sink_seen K.written K.faults sink.old sink.new) result }
     ensures later { K.faults sink.old ≤ K.faults sink.new }
 {
     let (script, report) = split(bytes);
@@ -93,10 +92,8 @@ fn judge<K: Sink>(alloc: Global, bytes: &[u8], sink: &mut K) -> Status
 /// starts no thread and waits for nothing. Our own.
 pub fn read_and_judge<S: Source, K: Sink>(alloc: Global, source: &mut S, sink: &mut K) -> Status
     ensures audited { AuditGives
-        (source_seen (S.left source.old) (S.left source.new)
-        (S.faults source.old) (S.faults source.new))
-        (sink_seen (K.written sink.old) (K.written sink.new)
-        (K.faults sink.old) (K.faults sink.new)) result }
+        (source_seen S.left S.faults source.old source.new)
+        (sink_seen K.written K.faults sink.old sink.new) result }
     ensures turns { S.turns source.new ≤ S.turns source.old + 67108865 }
     ensures source_later { S.faults source.old ≤ S.faults source.new }
     ensures sink_later { K.faults sink.old ≤ K.faults sink.new }

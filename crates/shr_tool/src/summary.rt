@@ -80,8 +80,7 @@ pub fn run_generated<R: Threads + Wait + Sync, K: Sink, G: Gate + Sync>(
 ) -> Status
     requires { MayBeGenerated numbers.workers numbers.commands }
     ensures written { SummaryGives numbers.seed numbers.workers numbers.commands
-        (sink_seen (K.written sink.old) (K.written sink.new)
-        (K.faults sink.old) (K.faults sink.new)) result }
+        (sink_seen K.written K.faults sink.old sink.new) result }
     ensures later { K.faults sink.old ≤ K.faults sink.new }
 {
     let Numbers {

@@ -6,6 +6,7 @@ ghost use Rattle.shr_script.specs.Content.{content_of, spell, IsValid};
 ghost use Rattle.shr_tool.specs.Audit.{AuditGives, IsJudging};
 ghost use Rattle.shr_tool.specs.Summary.{GenGives};
 ghost use Rattle.shr_tool.specs.Top.{source_seen, sink_seen, RefusalGives, RunGives, UsageGives, AnswerGives, IsComplete, IsRefusing};
+ghost use Rattle.shr_tool.specs.Traced.{TracedGives, TracedAnswer};
 ghost use Rattle.shr_tool.specs.Turns.{TurnsGive};
 
 use crate::afterwards::{Afterwards, let_go};
@@ -30,8 +31,7 @@ use std::thread::Threads;
 // Writes the refusal of a line.
 fn refuse<K: Sink>(alloc: Global, line: u32, code: Code, sink: &mut K) -> Status
     ensures refusal { RefusalGives line code
-        (sink_seen (K.written sink.old) (K.written sink.new)
-        (K.faults sink.old) (K.faults sink.new)) result }
+        (sink_seen K.written K.faults sink.old sink.new) result }
     ensures later { K.faults sink.old ≤ K.faults sink.new }
 {
     let Ok(text) = refusal(alloc, line, code) else {
@@ -55,8 +55,9 @@ fn serve<R: Threads + Wait + Sync, K: Sink, G: Gate + Sync>(
 ) -> Status
     requires { IsValid (content_of script) }
     ensures answer { AnswerGives (spell (content_of script))
-        (sink_seen (K.written sink.old) (K.written sink.new)
-        (K.faults sink.old) (K.faults sink.new)) result }
+        (sink_seen K.written K.faults sink.old sink.new) result }
+    ensures traced { TracedAnswer (spell (content_of script))
+        (sink_seen K.written K.faults sink.old sink.new) result }
     ensures later { K.faults sink.old ≤ K.faults sink.new }
 {
     let Ok(report) = run_and_report(rt, alloc, script, gate) else {
@@ -89,8 +90,9 @@ fn answer<R: Threads + Wait + Sync, K: Sink, G: Gate + Sync>(
     afterwards: Afterwards,
 ) -> Status
     ensures answer { AnswerGives bytes.items
-        (sink_seen (K.written sink.old) (K.written sink.new)
-        (K.faults sink.old) (K.faults sink.new)) result }
+        (sink_seen K.written K.faults sink.old sink.new) result }
+    ensures traced { TracedAnswer bytes.items
+        (sink_seen K.written K.faults sink.old sink.new) result }
     ensures later { K.faults sink.old ≤ K.faults sink.new }
 {
     match read_on_threads(rt, alloc, bytes.as_slice()) {
@@ -113,10 +115,11 @@ fn read_and_answer<R: Threads + Wait + Sync, S: Source, K: Sink, G: Gate + Sync>
     afterwards: Afterwards,
 ) -> Status
     ensures run { RunGives
-        (source_seen (S.left source.old) (S.left source.new)
-        (S.faults source.old) (S.faults source.new))
-        (sink_seen (K.written sink.old) (K.written sink.new)
-        (K.faults sink.old) (K.faults sink.new)) result }
+        (source_seen S.left S.faults source.old source.new)
+        (sink_seen K.written K.faults sink.old sink.new) result }
+    ensures traced { TracedGives
+        (source_seen S.left S.faults source.old source.new)
+        (sink_seen K.written K.faults sink.old sink.new) result }
     ensures turns { S.turns source.new ≤ S.turns source.old + 4194305 }
     ensures source_later { S.faults source.old ≤ S.faults source.new }
     ensures sink_later { K.faults sink.old ≤ K.faults sink.new }
@@ -153,47 +156,37 @@ pub fn top<R: Threads + Wait + Sync, S: Source, K: Sink, G: Gate + Sync>(
     // Done comes with a lawful report of the script that was read, whatever the order of the
     // workers' steps: the headline.
     ensures run { AreRunWords (map string_bytes words.now.items) → RunGives
-        (source_seen (S.left source.old) (S.left source.new)
-        (S.faults source.old) (S.faults source.new))
-        (sink_seen (K.written sink.old) (K.written sink.new)
-        (K.faults sink.old) (K.faults sink.new)) result }
+        (source_seen S.left S.faults source.old source.new)
+        (sink_seen K.written K.faults sink.old sink.new) result }
+    // That report is of tables that were opened for the script, and ended after its workers.
+    ensures traced { AreRunWords (map string_bytes words.now.items) → TracedGives
+        (source_seen S.left S.faults source.old source.new)
+        (sink_seen K.written K.faults sink.old sink.new) result }
     // So do five lines of a lawful report of the script that the numbers make.
     ensures generated { (seed workers commands : ℕ)
         → AreGenWords (map string_bytes words.now.items) seed workers commands
         → GenGives seed workers commands
-        (source_seen (S.left source.old) (S.left source.new)
-        (S.faults source.old) (S.faults source.new))
-        (sink_seen (K.written sink.old) (K.written sink.new)
-        (K.faults sink.old) (K.faults sink.new)) result }
+        (source_seen S.left S.faults source.old source.new)
+        (sink_seen K.written K.faults sink.old sink.new) result }
     // A report is judged by the script before it.
     ensures audited { AreAuditWords (map string_bytes words.now.items) → AuditGives
-        (source_seen (S.left source.old) (S.left source.new)
-        (S.faults source.old) (S.faults source.new))
-        (sink_seen (K.written sink.old) (K.written sink.new)
-        (K.faults sink.old) (K.faults sink.new)) result }
+        (source_seen S.left S.faults source.old source.new)
+        (sink_seen K.written K.faults sink.old sink.new) result }
     ensures usage { AreNoForm (map string_bytes words.now.items) → UsageGives
-        (source_seen (S.left source.old) (S.left source.new)
-        (S.faults source.old) (S.faults source.new))
-        (sink_seen (K.written sink.old) (K.written sink.new)
-        (K.faults sink.old) (K.faults sink.new)) result }
+        (source_seen S.left S.faults source.old source.new)
+        (sink_seen K.written K.faults sink.old sink.new) result }
     // A valid script is run, where nothing fails.
     ensures complete { AreRunWords (map string_bytes words.now.items) → IsComplete
-        (source_seen (S.left source.old) (S.left source.new)
-        (S.faults source.old) (S.faults source.new))
-        (sink_seen (K.written sink.old) (K.written sink.new)
-        (K.faults sink.old) (K.faults sink.new)) result }
+        (source_seen S.left S.faults source.old source.new)
+        (sink_seen K.written K.faults sink.old sink.new) result }
     // Bytes that are refused are refused, where nothing fails.
     ensures refusing { AreRunWords (map string_bytes words.now.items) → IsRefusing
-        (source_seen (S.left source.old) (S.left source.new)
-        (S.faults source.old) (S.faults source.new))
-        (sink_seen (K.written sink.old) (K.written sink.new)
-        (K.faults sink.old) (K.faults sink.new)) result }
+        (source_seen S.left S.faults source.old source.new)
+        (sink_seen K.written K.faults sink.old sink.new) result }
     // The verdict that holds is told, where nothing fails.
     ensures judged { AreAuditWords (map string_bytes words.now.items) → IsJudging
-        (source_seen (S.left source.old) (S.left source.new)
-        (S.faults source.old) (S.faults source.new))
-        (sink_seen (K.written sink.old) (K.written sink.new)
-        (K.faults sink.old) (K.faults sink.new)) result }
+        (source_seen S.left S.faults source.old source.new)
+        (sink_seen K.written K.faults sink.old sink.new) result }
     ensures turns { TurnsGive (map string_bytes words.now.items) (S.turns source.old)
         (S.turns source.new) }
     ensures source_later { S.faults source.old ≤ S.faults source.new }
