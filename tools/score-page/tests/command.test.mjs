@@ -138,7 +138,7 @@ test('the page of each example is made by one command', () => {
   const folder = mkdtempSync(join(tmpdir(), 'score-examples-'));
   assert.equal(run('score-examples', [folder]).status, 0);
   const made = readdirSync(folder).sort(),
-        examples = readdirSync(EXAMPLES)
+        examples = [...readdirSync(EXAMPLES), ...readdirSync(new URL('races/', EXAMPLES))]
                        .filter(name => name.endsWith('.report'))
                        .map(name => name.replace('.report', '.html'));
   assert.deepEqual(made, examples.sort());
