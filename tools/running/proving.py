@@ -19,6 +19,21 @@ def weight_of(folder):
     return sum(os.path.getsize(f"{at}/{name}") for at, _, names in parts for name in names)
 
 
+def crates_in_work():
+    """The crates of this checkout in whose folders the prover runs now."""
+    names = set()
+    for number in filter(str.isdigit, os.listdir("/proc")):
+        try:
+            folder = os.readlink(f"/proc/{number}/cwd")
+            with open(f"/proc/{number}/comm", encoding="utf-8") as file:
+                is_prover = file.read().strip() == "rattle"
+        except OSError:
+            continue
+        if is_prover and os.path.dirname(folder) == f"{TOP}/crates":
+            names.add(os.path.basename(folder))
+    return sorted(names)
+
+
 class Work:
     """How much is proved, by the lines that `rt run` writes."""
 
@@ -39,8 +54,9 @@ class Work:
     def tell(self, seconds):
         """What is in work, and how long the rest takes if it goes on like this."""
         text = f"proved {self.proved} of {len(self.weights)} crates"
-        if self.name in self.left:
-            text += f", {self.name} is in work"
+        names = crates_in_work()
+        if names:
+            text += f", in work: {', '.join(names)}"
         whole, left = sum(self.weights.values()), sum(self.left.values())
         if self.proved and seconds > 30 and left < whole:
             text += f", about {spell(seconds * left / (whole - left))} left"
