@@ -1,7 +1,8 @@
 //! The formulas of a pass.
 
 ghost use Rattle.std.specs.Prelude.{◌≡◌, ◌^◌, ◌<◌, ◌≤◌};
-ghost use Rattle.shr_model.specs.Pass.{batch_of, delta_of, total_of, next_of, ask_of};
+ghost use Rattle.shr_model.specs.Pass.{batch_of, delta_of, total_of, next_of};
+ghost use Rattle.shr_model.specs.PassSteps.{ask_of};
 
 use crate::SHRINK_BATCH;
 use crate::plans::Plan;

@@ -115,16 +115,19 @@ pub use Rattle.shr_model.specs.Bag.{added_by_all, added_in, freed_in, listed_in,
 pub use Rattle.shr_model.specs.Bits.{units_of}
 pub use Rattle.shr_model.specs.Charges.{AreTakenBack, IsBelow, IsChargeHistory, IsDownNext, downs, is_by, is_refused, ups, usage_after}
 pub use Rattle.shr_model.specs.Commands.{asks_online, decl_named, group_named, is_serial, jobs_of, round_of, rounds_from}
-pub use Rattle.shr_model.specs.Deferred.{amount_at, amount_of, deferred_word, sum_at}
+pub use Rattle.shr_model.specs.Amounts.{amount_at, sum_at}
+pub use Rattle.shr_model.specs.Deferred.{amount_of, deferred_word}
 pub use Rattle.shr_model.specs.Families.{Family, IsLegal, IsPairedAt, before_closed, items_at, items_of, lists_moved_at, moved_in}
 pub use Rattle.shr_model.specs.Freeings.{born_below, is_at_or_above}
-pub use Rattle.shr_model.specs.Groups.{Hierarchy, IsAtOrAbove, IsHierarchy, IsTree, is_child, is_later, parent_of, path_of, preorder_of}
+pub use Rattle.shr_model.specs.Groups.{Hierarchy, IsAtOrAbove, is_child, is_later, parent_of, path_of, preorder_of}
+pub use Rattle.shr_model.specs.Trees.{IsHierarchy, IsTree}
 pub use Rattle.shr_model.specs.Isolations.{first_isolation}
 pub use Rattle.shr_model.specs.Items.{drop_kind_of, dropped_of, freed_by, is_closed, items_from, step}
 pub use Rattle.shr_model.specs.Moves.{given_at, is_below, taken_at}
 pub use Rattle.shr_model.specs.Objects.{fresh, holds, is_named, marked_object, named_in, pinned_object, unmarked_object}
 pub use Rattle.shr_model.specs.Pass.{FollowsArithmetic, MadeOf, ask_size, batch_of, due, due_asks, total_of}
-pub use Rattle.shr_model.specs.Places.{at_group, bit_of, is_place, place_number, unit_of}
+pub use Rattle.shr_model.specs.Places.{at_group, bit_of, is_place, unit_of}
+pub use Rattle.shr_model.specs.PlaceNumbers.{place_number}
 pub use Rattle.shr_model.specs.Pool.{IsNextPool, IsPoolJournal, decl_at, decl_of, end_of, from_of, id_of, is_before, is_free, is_live, is_live_decl, last_number, lowest_idle, number_after, phase_of, registrations}
 pub use Rattle.shr_model.specs.Prefixes.{IsPrefixOf}
 pub use Rattle.shr_model.specs.Scans.{ScanMade, scan_by}
@@ -161,27 +164,28 @@ pub use Rattle.shr_reclaim.specs.declared.answers.Admission.{Admission}
 pub use Rattle.shr_reclaim.specs.declared.answers.Admission.TheVariants.{Charged, Memory, Over}
 pub use Rattle.shr_reclaim.proofs.Settling.{Closes, refused_closes}
 pub use Rattle.shr_registry.specs.Ending.{AreNodeDraws, Frees, Halves, StoppedBy, UnregisterGives, drawn_from, ended_turn, made_from}
-pub use Rattle.shr_report.specs.BitsLawful.{AreBitsLawful, has_bit, shows_bit}
-pub use Rattle.shr_report.specs.Causes.{MayHaveBegun, drained_by, moved_of}
-pub use Rattle.shr_report.specs.Charges.{IsDownBetween, charged}
-pub use Rattle.shr_report.specs.Cuts.{IsWant}
-pub use Rattle.shr_report.specs.Deferred.{HasCarried, amount_in}
-pub use Rattle.shr_report.specs.Faithful.{IsFaithful}
-pub use Rattle.shr_report.specs.Freshness.{MayBeOffline, is_past_group, made_shown, pool_made, pool_seen, pool_told}
-pub use Rattle.shr_report.specs.Isolated.{isolations_told}
-pub use Rattle.shr_report.specs.Lawful.{IsLawful}
-pub use Rattle.shr_report.specs.LawfulWalk.{AreScansOf, IsLastOfCut, IsOutcomeOf, IsPlaced, IsStopped, cache_asks_due}
-pub use Rattle.shr_report.specs.Parts.{IsThere, answer_at, answers_in, answers_of, at, carries_in, carries_of, cited_by, command_at, commands_in, commands_of, decls_on, id_found, isolations_in, isolations_of, items_before, items_left, journal_of, journals_of, limit_of, limits_of, lookups_at, parents_of, places_of, script_hierarchy, serial_of, sweeps_in, sweeps_of, uses_at, walks_in, walks_of}
-pub use Rattle.shr_report.specs.Puts.{AreFreePutsAdded, DoPutsAddUp}
-pub use Rattle.shr_report.specs.ReplyTable.{Cites, IsReply, group_met}
-pub use Rattle.shr_report.specs.Swept.{IsSweepWalk, IsSwept}
-pub use Rattle.shr_report.specs.Takes.{WordStep, place_of_parent, places_offlined, steps_handed, steps_passed, steps_walked, took}
-pub use Rattle.shr_report.specs.Tries.{refusals_of, was_charged}
-pub use Rattle.shr_report.specs.WalksLawful.{IsToldBy, MayMake, balance_reply, over_at, reply_of, shrink_reply}
-pub use Rattle.shr_report.specs.WellFormed.{AreNotFalling, AreNumbersRising, AreOfCommands, HasWords, IsAmountWell, IsBefore, IsBitWord, IsCarryBefore, IsNumbered, IsPartWell, IsPlaceBefore, IsPlaceWell, IsPoolAmountWell, IsPoolNumbered, IsSpelled, IsTreeNumbered, IsUseBefore, IsWalkWell, IsWellFormed, LendsWord, bit_places, map_units}
-pub use Rattle.shr_report.specs.declared.report.Report.{Report}
-pub use Rattle.shr_report.specs.BitsTold.{bit_place}
-pub use Rattle.shr_report.specs.UnitParts.{PlainJob, one_plain, plain_due, plain_in, plain_jobs, plain_of}
+pub use Rattle.shr_laws.specs.BitsLawful.{AreBitsLawful, has_bit, shows_bit}
+pub use Rattle.shr_laws.specs.Causes.{MayHaveBegun, drained_by, moved_of}
+pub use Rattle.shr_laws.specs.Charges.{IsDownBetween, charged}
+pub use Rattle.shr_laws.specs.Cuts.{IsWant}
+pub use Rattle.shr_laws.specs.Deferred.{HasCarried, amount_in}
+pub use Rattle.shr_laws.specs.Faithful.{IsFaithful}
+pub use Rattle.shr_laws.specs.Freshness.{MayBeOffline, is_past_group, made_shown, pool_made, pool_seen, pool_told}
+pub use Rattle.shr_laws.specs.Isolated.{isolations_told}
+pub use Rattle.shr_laws.specs.Lawful.{IsLawful}
+pub use Rattle.shr_laws.specs.LawfulWalk.{AreScansOf, IsLastOfCut, IsOutcomeOf, IsPlaced, IsStopped, cache_asks_due}
+pub use Rattle.shr_laws.specs.Parts.{IsThere, answer_at, answers_in, answers_of, at, carries_in, carries_of, cited_by, command_at, commands_in, commands_of, decls_on, id_found, isolations_in, isolations_of, items_before, items_left, journal_of, journals_of, limit_of, limits_of, lookups_at, parents_of, places_of, script_hierarchy, serial_of, sweeps_in, sweeps_of, uses_at, walks_in, walks_of}
+pub use Rattle.shr_laws.specs.Puts.{AreFreePutsAdded}
+pub use Rattle.shr_laws.specs.PutSums.{DoPutsAddUp}
+pub use Rattle.shr_laws.specs.ReplyTable.{Cites, IsReply, group_met}
+pub use Rattle.shr_laws.specs.Swept.{IsSweepWalk, IsSwept}
+pub use Rattle.shr_laws.specs.Takes.{WordStep, place_of_parent, places_offlined, steps_handed, steps_passed, steps_walked, took}
+pub use Rattle.shr_laws.specs.Tries.{refusals_of, was_charged}
+pub use Rattle.shr_laws.specs.WalksLawful.{IsToldBy, MayMake, balance_reply, over_at, reply_of, shrink_reply}
+pub use Rattle.shr_laws.specs.WellFormed.{AreNotFalling, AreNumbersRising, AreOfCommands, HasWords, IsAmountWell, IsBefore, IsBitWord, IsCarryBefore, IsNumbered, IsPartWell, IsPlaceBefore, IsPlaceWell, IsPoolAmountWell, IsPoolNumbered, IsSpelled, IsTreeNumbered, IsUseBefore, IsWalkWell, IsWellFormed, LendsWord, bit_places, map_units}
+pub use Rattle.shr_laws.specs.declared.report.Report.{Report}
+pub use Rattle.shr_laws.specs.BitsTold.{bit_place}
+pub use Rattle.shr_laws.specs.UnitParts.{PlainJob, one_plain, plain_due, plain_in, plain_jobs, plain_of}
 pub use Rattle.shr_script.proofs.BoundsLaws.{within_of_valid}
 pub use Rattle.shr_script.specs.Bounds.{IsCommandWithin, IsGroup, IsIsolationWithin, IsObjectWithin, IsPoolCommandWithin, IsPoolWithin, IsSweepWithin, IsWithin}
 pub use Rattle.shr_script.specs.Content.{content_of}

@@ -3,7 +3,7 @@ use Rattle.shr_assemble.proofs.Common.{◌≡◌, ℕ, ◌≤◌, List, ◌∷�
 use Rattle.shr_model.proofs.Lists.{there_at}
 use Rattle.shr_assemble.proofs.ScriptGroups.{sized_of}
 use Rattle.shr_walk.proofs.Shares.{same_hierarchy}
-use Rattle.shr_report.specs.Parts as report
+use Rattle.shr_laws.specs.Parts as report
 use Rattle.shr_assemble.proofs.EndsGathered.{last, cleared_are, sets_are}
 use Rattle.shr_assemble.proofs.EndsHistories.{history_is}
 use Rattle.shr_assemble.proofs.EndsSteps.{lookups_at_below, workers, is_crew, steps}

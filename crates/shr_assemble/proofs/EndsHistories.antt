@@ -2,7 +2,7 @@
 use Rattle.shr_assemble.proofs.Common.{◌≡◌, ℕ, ◌+◌, ◌≤◌, ⊎_elim, Bool, true, false, ◌&&◌, cond, List, [], ◌∷◌, length, sym, refl, ap, subst, ◌∙◌, arith, eqb, slice_get, Some, filter, IsPermutation, nat_lt, eqb-true, sum_by-IsPermutation, Contains-permutation, TreeEntry, UseStep, IsChargeHistory, Hierarchy, IsTreeJournal, hierarchy_of, Has, Contains_from_Has, filter_has, total, Shared, Ends, Report, uses_at, WorkerLog, AreEndsOf, IsMadeOf, StandsBefore, count_total, some_at, sum_total, le-ltb, AreUsesAndTree, times_at, StandsInHistory}
 use Rattle.shr_charge.specs.Offlining as offlining
 use Rattle.shr_charge.specs.Views as charge
-use Rattle.shr_report.specs.Parts as report
+use Rattle.shr_laws.specs.Parts as report
 use Rattle.shr_assemble.proofs.EndsGathered.{last, ops_are, entries_are, same}
 use Rattle.shr_assemble.proofs.EndsSteps.{workers}
 use Rattle.shr_assemble.proofs.EndsPlaces.{AreNumbered, numbers, sorted_history}

@@ -3,8 +3,8 @@ use Rattle.shr_assemble.proofs.Common.{◌≡◌, ℕ, zero, suc, ◌<◌, ◌�
 use Rattle.std.proofs.lemmas.Option.{slice_get-map}
 use Rattle.shr_assemble.proofs.Filling.{none_left}
 use Rattle.shr_model.proofs.Lists.{there_at}
-use Rattle.shr_report.specs.Parts as parts
-use Rattle.shr_report.specs.UnitParts as units
+use Rattle.shr_laws.specs.Parts as parts
+use Rattle.shr_laws.specs.UnitParts as units
 use Rattle.shr_assemble.proofs.Printing.{get_taken}
 
 -- nothing stands past a beginning

@@ -6,7 +6,7 @@ use Rattle.shr_charge.specs.Views as charge
 use Rattle.shr_lawful.proofs.FreshLaw.{begins_length}
 use Rattle.shr_core.specs.Parts as core
 use Rattle.shr_charge.specs.declared.answers.GroupState.TheVariants as state
-use Rattle.shr_report.specs.Parts as report
+use Rattle.shr_laws.specs.Parts as report
 use Rattle.shr_lawful.proofs.Listed.{contains_among}
 
 -- a step by its parts

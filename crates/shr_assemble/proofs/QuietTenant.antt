@@ -4,7 +4,7 @@ use Rattle.shr_assemble.proofs.ScriptGroups.{sized_of}
 use Rattle.shr_base.specs.declared.replies.Reply.TheVariants as reply
 use Rattle.shr_base.specs.declared.replies.Spent.TheVariants as spent
 use Rattle.shr_charge.specs.declared.answers.GroupState.TheVariants as state
-use Rattle.shr_report.specs.Parts as report
+use Rattle.shr_laws.specs.Parts as report
 use Rattle.shr_charge.specs.Views as charge
 use Rattle.shr_assemble.proofs.Filling.{IsSet, filled_by, set_filled, set_none}
 use Rattle.shr_assemble.proofs.FirstLists.{first_for}

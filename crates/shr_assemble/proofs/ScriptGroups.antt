@@ -1,7 +1,7 @@
 -- The version and the sizes of a script whose tables were made, and its groups, a tree in which the parent of one that isn't later
 -- isn't later.
 use Rattle.shr_assemble.proofs.Common.{sym, subst, content_of, within_of_valid, hierarchy_of, shape_of, IsShared, Shared, IsHierarchy, ◌≡◌, ◌⊎◌, ◌≤◌, arith, length-map, GroupDecl, IsSized}
-use Rattle.shr_report.specs.Parts as report
+use Rattle.shr_laws.specs.Parts as report
 use Rattle.shr_assemble.proofs.QuietSteps.{hierarchy_is}
 
 pub sized_of : (x : Shared) → IsShared x → IsSized x.script

@@ -10,9 +10,9 @@ use Rattle.shr_base.specs.declared.walks.PlainWalk.{PlainWalk}
 use Rattle.shr_base.specs.Walks.{WalkRecord}
 use Rattle.shr_model.specs.Bag.{added_by_all}
 use Rattle.shr_tables.specs.declared.ending.Ends.{Ends}
-use Rattle.shr_report.specs.declared.report.Report.{Report}
-use Rattle.shr_report.specs.Parts.{answers_of, walks_of, carries_of, isolations_of}
-use Rattle.shr_report.specs.UnitParts.{plain_of}
+use Rattle.shr_laws.specs.declared.report.Report.{Report}
+use Rattle.shr_laws.specs.Parts.{answers_of, walks_of, carries_of, isolations_of}
+use Rattle.shr_laws.specs.UnitParts.{plain_of}
 use Rattle.shr_assemble.specs.declared.logs.WorkerLog.{WorkerLog}
 
 -- the answers, the walks and the carries of a worker, none past the last worker

@@ -2,10 +2,11 @@
 
 ghost use Rattle.std.specs.Prelude.{◌≡◌, ◌+◌, ◌∷◌, IfOk, codes, length, map};
 ghost use Rattle.shr_model.specs.Bag.{added_by_all};
-ghost use Rattle.shr_report.specs.Faithful.{IsFaithful};
-ghost use Rattle.shr_report.specs.Lawful.{IsLawful};
-ghost use Rattle.shr_report.specs.Puts.{AreFreePutsAdded, DoPutsAddUp};
-ghost use Rattle.shr_report.specs.WellFormed.{IsWellFormed};
+ghost use Rattle.shr_laws.specs.Faithful.{IsFaithful};
+ghost use Rattle.shr_laws.specs.Lawful.{IsLawful};
+ghost use Rattle.shr_laws.specs.Puts.{AreFreePutsAdded};
+ghost use Rattle.shr_laws.specs.PutSums.{DoPutsAddUp};
+ghost use Rattle.shr_laws.specs.WellFormed.{IsWellFormed};
 ghost use Rattle.shr_assemble.specs.Makes.{added_count, listed_count, IsMadeOf};
 ghost use Rattle.shr_assemble.specs.Putting.{AreEnds, IsPutTogether};
 
@@ -17,8 +18,8 @@ use shr_base::log::Log;
 use shr_base::memory::Memory;
 use shr_base::scripts::{CacheDecl, GroupDecl, PoolDecl};
 use shr_base::text::Text;
+use shr_laws::report::Report;
 use shr_plain::ending::PoolsEnd;
-use shr_report::report::Report;
 use shr_tables::ending::Ends;
 use std::alloc::Global;
 

@@ -6,11 +6,12 @@ pub use Rattle.shr_base.specs.declared.scripts.Script.{Script}
 pub use Rattle.shr_base.specs.declared.scripts.WorkerScript.{WorkerScript}
 pub use Rattle.shr_audit_text.specs.Draft.{kept, with_said}
 pub use Rattle.shr_audit_text.specs.Reading.{nothing_read}
-pub use Rattle.shr_report.specs.Lawful.{IsLawful}
-pub use Rattle.shr_report.specs.Replies.{AreRepliesLawful}
-pub use Rattle.shr_report.specs.declared.report.Report.{Report}
-pub use Rattle.shr_script.specs.Content.{Content, IsSpelling, IsValid, content_of}
-pub use Rattle.shr_script.specs.Script.{IsFault}
+pub use Rattle.shr_laws.specs.Lawful.{IsLawful}
+pub use Rattle.shr_laws.specs.Replies.{AreRepliesLawful}
+pub use Rattle.shr_laws.specs.declared.report.Report.{Report}
+pub use Rattle.shr_script.specs.Content.{Content, IsValid, content_of}
+pub use Rattle.shr_script.specs.Spelling.{IsSpelling}
+pub use Rattle.shr_script.specs.Faults.{IsFault}
 pub use Rattle.shr_audit.specs.Script.{IsScriptOf, IsTightScript, IsTightWorker, tight_script, tight_worker}
 pub use Rattle.shr_audit.specs.Verdict.{AreTextsOf, Holds, HoldsOf, IsFirstBroken, law_number}
 pub use Rattle.shr_audit.specs.declared.verdict.Law.{Law}

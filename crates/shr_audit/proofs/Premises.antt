@@ -2,7 +2,7 @@
 use Rattle.shr_audit.proofs.Common.{◌≡◌, ℕ, ◌<◌, ◌≤◌, [], map, Some, None, refl, ◌∙◌, arith, slice_get, Script, WorkerScript, content_of, few_commands, few_workers, is_tree, ◌^◌, length, Option, IsValid}
 use Rattle.std.proofs.lemmas.List.{length-map}
 use Rattle.shr_script.proofs.BoundsLaws.{within_of_valid}
-use Rattle.shr_report.specs.Parts.{parents_of, commands_of, commands_in}
+use Rattle.shr_laws.specs.Parts.{parents_of, commands_of, commands_in}
 
 -- and few
 pub few_groups : (s : Script) → IsValid (content_of s) → length (parents_of s) ≤ 65536

@@ -2,7 +2,8 @@
 use Rattle.shr_audit.proofs.Common.{◌≡◌, [], None, refl, arith, Script, IsFault, Report, AreRepliesLawful, kept, nothing_read, Lawful, BadScript, BadReport, IsTightScript, IsFirstBroken, HoldsOf}
 use Rattle.shr_model.specs.Pieces.{cut, pieces, joined}
 use Rattle.shr_base.specs.declared.scripts.Code.TheVariants.{NoEnd}
-use Rattle.shr_script.specs.Script.{spell_lines, state_after_lines, verdict, AreLines}
+use Rattle.shr_script.specs.Script.{spell_lines, state_after_lines, AreLines}
+use Rattle.shr_script.specs.Faults.{verdict}
 use Rattle.shr_audit.specs.declared.verdict.Law.TheVariants as laws
 use Rattle.shr_audit.specs.declared.given.Given.TheVariants.{Both, Bad}
 use Rattle.shr_audit.specs.Given.{IsGiven}

@@ -3,7 +3,8 @@ use Rattle.std.specs.Prelude.{ℕ, List, map}
 use Rattle.std.specs.List.{AllByRecursion}
 use Rattle.shr_base.specs.declared.scripts.Script.{Script}
 use Rattle.shr_base.specs.declared.scripts.WorkerScript.{WorkerScript}
-use Rattle.shr_script.specs.Content.{content_of, IsSpelling}
+use Rattle.shr_script.specs.Content.{content_of}
+use Rattle.shr_script.specs.Spelling.{IsSpelling}
 use Rattle.shr_audit_text.specs.Draft.{kept}
 use Rattle.shr_audit_text.specs.Reading.{IsTight}
 

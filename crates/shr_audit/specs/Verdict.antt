@@ -1,20 +1,20 @@
 -- What is said of a script and a report as bytes, and when it is so.
 use Rattle.std.specs.Prelude.{◌≡◌, ℕ, ◌<◌, List}
 use Rattle.shr_base.specs.declared.scripts.Script.{Script}
-use Rattle.shr_script.specs.Script.{IsFault}
-use Rattle.shr_report.specs.declared.report.Report.{Report}
-use Rattle.shr_report.specs.Replies.{AreRepliesLawful}
-use Rattle.shr_report.specs.Journals.{AreJournalsLawful}
-use Rattle.shr_report.specs.WalksLawful.{AreWalksLawful}
-use Rattle.shr_report.specs.Lookups.{AreLookupsLawful}
-use Rattle.shr_report.specs.Charges.{AreChargesLawful}
-use Rattle.shr_report.specs.Deferred.{IsDeferredLawful}
-use Rattle.shr_report.specs.BitsLawful.{AreBitsLawful}
-use Rattle.shr_report.specs.CausesLawful.{AreCausesLawful}
-use Rattle.shr_report.specs.Pools.{ArePoolsLawful}
-use Rattle.shr_report.specs.Isolated.{AreIsolationsLawful}
-use Rattle.shr_report.specs.Swept.{IsSweepLawful}
-use Rattle.shr_report.specs.Lawful.{IsBagLawful, IsLawful}
+use Rattle.shr_script.specs.Faults.{IsFault}
+use Rattle.shr_laws.specs.declared.report.Report.{Report}
+use Rattle.shr_laws.specs.Replies.{AreRepliesLawful}
+use Rattle.shr_laws.specs.Journals.{AreJournalsLawful}
+use Rattle.shr_laws.specs.WalksLawful.{AreWalksLawful}
+use Rattle.shr_laws.specs.Lookups.{AreLookupsLawful}
+use Rattle.shr_laws.specs.Charges.{AreChargesLawful}
+use Rattle.shr_laws.specs.Deferred.{IsDeferredLawful}
+use Rattle.shr_laws.specs.BitsLawful.{AreBitsLawful}
+use Rattle.shr_laws.specs.CausesLawful.{AreCausesLawful}
+use Rattle.shr_laws.specs.Pools.{ArePoolsLawful}
+use Rattle.shr_laws.specs.Isolated.{AreIsolationsLawful}
+use Rattle.shr_laws.specs.Swept.{IsSweepLawful}
+use Rattle.shr_laws.specs.Lawful.{IsBagLawful, IsLawful}
 use Rattle.shr_audit_text.specs.Reading.{IsReportOf}
 use Rattle.shr_audit_values.specs.Once.{AreCitedOnce}
 use Rattle.shr_audit.specs.declared.verdict.Law.{Law}

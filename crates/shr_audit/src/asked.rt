@@ -3,10 +3,10 @@
 ghost use Rattle.std.specs.Prelude.{IfOk, IfSome, IfNone};
 ghost use Rattle.std.specs.Bool.{Decides};
 ghost use Rattle.shr_script.specs.Content.{IsValid, content_of};
-ghost use Rattle.shr_report.specs.Isolated.{AreIsolationsLawful};
-ghost use Rattle.shr_report.specs.Lawful.{IsLawful};
-ghost use Rattle.shr_report.specs.Numbers.{HasNumbers};
-ghost use Rattle.shr_report.specs.WellFormed.{IsWellFormed};
+ghost use Rattle.shr_laws.specs.Isolated.{AreIsolationsLawful};
+ghost use Rattle.shr_laws.specs.Lawful.{IsLawful};
+ghost use Rattle.shr_laws.specs.Numbers.{HasNumbers};
+ghost use Rattle.shr_laws.specs.WellFormed.{IsWellFormed};
 ghost use Rattle.shr_audit_case.specs.Lists.{IsCaseOf};
 ghost use Rattle.shr_audit.specs.declared.verdict.Law.TheVariants.{Replies};
 ghost use Rattle.shr_audit.specs.Verdict.{Holds, IsFirstBroken};
@@ -29,7 +29,7 @@ use shr_audit_values::once::are_cited_once;
 use shr_audit_walks::law::are_walks_lawful;
 use shr_base::memory::Memory;
 use shr_base::scripts::Script;
-use shr_report::report::Report;
+use shr_laws::report::Report;
 use std::alloc::Global;
 
 // Whether the law on replies holds, and no answer cites a place that is printed twice.

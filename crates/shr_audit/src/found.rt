@@ -2,17 +2,17 @@
 
 ghost use Rattle.std.specs.Prelude.{◌≡◌, IfOk, IfSome, IfNone, OnOk};
 ghost use Rattle.std.specs.Bool.{Decides};
-ghost use Rattle.shr_report.specs.declared.report.Report.{Report};
-ghost use Rattle.shr_report.specs.Text.{text};
-ghost use Rattle.shr_report.specs.WellFormed.{IsWellFormed};
-ghost use Rattle.shr_report.specs.Numbers.{HasNumbers};
+ghost use Rattle.shr_laws.specs.declared.report.Report.{Report};
+ghost use Rattle.shr_laws.specs.Text.{text};
+ghost use Rattle.shr_laws.specs.WellFormed.{IsWellFormed};
+ghost use Rattle.shr_laws.specs.Numbers.{HasNumbers};
 ghost use Rattle.shr_audit_text.specs.Reading.{IsReportOf};
 
 use shr_audit_formed::formed::is_well_formed;
 use shr_audit_text::reading::read;
 use shr_base::memory::Memory;
+use shr_laws::report::Report;
 use shr_outside::sinks::MemorySink;
-use shr_report::report::Report;
 use shr_report::text::print;
 use std::alloc::Global;
 

@@ -8,7 +8,7 @@ use crate::script::script_of;
 use crate::verdict::Verdict;
 use shr_base::memory::Memory;
 use shr_base::scripts::Script;
-use shr_report::report::Report;
+use shr_laws::report::Report;
 use shr_script::read::ReadError;
 use std::alloc::Global;
 

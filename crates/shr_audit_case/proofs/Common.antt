@@ -13,8 +13,8 @@ pub use Rattle.shr_audit_case.specs.Groups.{AreJournals, ArePrinted, AreReplayed
 pub use Rattle.shr_audit_case.specs.Journals.{IsReplayed}
 pub use Rattle.shr_audit_case.specs.Tags.{tag_of}
 pub use Rattle.shr_audit_case.specs.declared.journal.Replayed.{Replayed}
-pub use Rattle.shr_report.specs.Parts.{EachAnswer, EachEntry, EachWalk, answers_in, journal_of, journals_of, serial_of, walks_in}
-pub use Rattle.shr_report.specs.WellFormed.{IsBefore, IsPlaceBefore, IsPlaceUpTo}
+pub use Rattle.shr_laws.specs.Parts.{EachAnswer, EachEntry, EachWalk, answers_in, journal_of, journals_of, serial_of, walks_in}
+pub use Rattle.shr_laws.specs.WellFormed.{IsBefore, IsPlaceBefore, IsPlaceUpTo}
 pub use Rattle.shr_audit_case.specs.Each.{AnswersInParts, EachFirst, InParts}
 pub use Rattle.shr_audit_case.specs.Lists.{AreReplays, IsReplayOfList, TellsReplayed, items_printed_in, journals_in}
 pub use Rattle.shr_audit_case.specs.Places.{AreInOrder, IsFirst, IsIndexOf, comes_before, end_printed}

@@ -5,7 +5,7 @@ use Rattle.shr_base.specs.declared.replies.Answered.{Answered}
 use Rattle.shr_base.specs.Walks.{WalkRecord}
 use Rattle.shr_base.specs.declared.scripts.Command.{Command}
 use Rattle.shr_base.specs.declared.scripts.Script.{Script}
-use Rattle.shr_report.specs.declared.report.Report.{Report}
+use Rattle.shr_laws.specs.declared.report.Report.{Report}
 use Rattle.shr_audit_case.proofs.Firsts.{first_found, found_or_none}
 
 -- what is so of the same things is decided alike

@@ -9,8 +9,10 @@ pub use Rattle.shr_base.specs.declared.journals.Entry.TheVariants.{Add, Closed, 
 pub use Rattle.shr_base.specs.declared.objects.Object.{Object}
 pub use Rattle.shr_base.specs.declared.places.Place.{Place}
 pub use Rattle.shr_list.specs.Nodes.{AtNode, IsAt, Keyed, Queued, first_key, objects_of}
-pub use Rattle.shr_model.specs.Families.{Family, before_closed, child_of, moved_by, without_child}
-pub use Rattle.shr_model.specs.Groups.{IsTree, is_child, parent_of}
+pub use Rattle.shr_model.specs.Families.{Family, before_closed, child_of, without_child}
+pub use Rattle.shr_model.specs.MovedItems.{moved_by}
+pub use Rattle.shr_model.specs.Trees.{IsTree}
+pub use Rattle.shr_model.specs.Groups.{is_child, parent_of}
 pub use Rattle.shr_model.specs.Places.{at_group}
 pub use Rattle.shr_audit_case.specs.Groups.{AreJournals, ArePrinted, AreReplayed, IsReplayedAt, printed_entries, printed_items}
 pub use Rattle.shr_audit_case.specs.Journals.{IsReplayed, given_from}

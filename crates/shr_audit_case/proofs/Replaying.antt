@@ -2,7 +2,8 @@
 use Rattle.shr_audit_case.proofs.Common.{◌≡◌, ◌≢◌, ℕ, ◌+◌, ◌-◌, ◌<◌, ◌≤◌, true, false, List, [], ◌∷◌, length, length-append, get_or, Option, Some, None, refl, sym, ap, subst, ◌∙◌, ◌⊎◌, inl, inr, arith, slice_get, slice_index, ◌==◌, nat_lt, cases_Bool, cases_order, and_parts, eqb-true, ltb-true, get_or_from_slice_get, slice_get-get_or, slice_get_within, Place, Object, Entry, PlaceEnd, journal_of, IsPlaceBefore, IsPlaceUpTo, Replayed, AreJournals, ArePrinted, IsReplayedAt, printed_items, IsReplayed, AreInOrder, IsFirst, IsReplayOfList, items_printed_in, journals_in, AreFirsts, AreReplaysBefore, IsNewAt, IsTakenOut, on_node, cond, ◌++◌, ltb-false, AreReplayed, printed_entries, AreReplaysAt}
 use Rattle.std.proofs.lemmas.List.{get_or_append_left}
 use Rattle.std.proofs.Math.Seq.{get_or-append_seam}
-use Rattle.shr_model.specs.Groups.{IsTree, is_child}
+use Rattle.shr_model.specs.Trees.{IsTree}
+use Rattle.shr_model.specs.Groups.{is_child}
 use Rattle.shr_model.specs.Places.{at_group}
 use Rattle.shr_model.specs.Families.{Family, items_given, items_within, before_closed, lists_moved}
 use Rattle.shr_model.proofs.GroupsLaws.{child_takes}

@@ -7,7 +7,8 @@ pub use Rattle.shr_base.specs.declared.places.Place.{Place}
 pub use Rattle.shr_base.specs.declared.walks.Carry.{Carry}
 pub use Rattle.shr_base.specs.declared.walks.PassRecord.{PassRecord}
 pub use Rattle.shr_base.specs.Walks.{WalkRecord}
-pub use Rattle.shr_model.specs.Deferred.{amount_at, deferred_word, sum_at}
+pub use Rattle.shr_model.specs.Amounts.{amount_at, sum_at}
+pub use Rattle.shr_model.specs.Deferred.{deferred_word}
 pub use Rattle.shr_model.specs.Moves.{given_at, is_below, taken_at}
 pub use Rattle.shr_model.specs.Places.{at_group, is_place}
 pub use Rattle.shr_model.specs.Walks.{passes_at, place_in}

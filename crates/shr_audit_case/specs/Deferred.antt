@@ -8,7 +8,8 @@ use Rattle.shr_base.specs.declared.walks.Carry.{Carry}
 use Rattle.shr_base.specs.declared.ends.PlaceAmount.{PlaceAmount}
 use Rattle.shr_model.specs.Places.{is_place, at_group}
 use Rattle.shr_model.specs.Groups.{parent_of}
-use Rattle.shr_model.specs.Deferred.{sum_at, deferred_word}
+use Rattle.shr_model.specs.Amounts.{sum_at}
+use Rattle.shr_model.specs.Deferred.{deferred_word}
 use Rattle.shr_model.specs.Moves.{is_below, given_at, taken_at}
 use Rattle.shr_model.specs.Walks.{passes_at}
 use Rattle.shr_audit_case.specs.declared.moves.Move.{Move}

@@ -4,7 +4,8 @@ use Rattle.std.specs.Bool.{Decides}
 use Rattle.shr_base.specs.declared.objects.Object.{Object}
 use Rattle.shr_base.specs.declared.journals.Entry.{Entry}
 use Rattle.shr_model.specs.Items.{step, freed_by, first_moved, later_moved, items_from, AreOutcomes, IsOutcome, is_closing}
-use Rattle.shr_model.specs.Families.{moved_by, lists_moved, before_closed}
+use Rattle.shr_model.specs.MovedItems.{moved_by}
+use Rattle.shr_model.specs.Families.{lists_moved, before_closed}
 use Rattle.shr_audit_case.specs.declared.tags.FreedTag.{FreedTag}
 use Rattle.shr_audit_case.specs.declared.values.FoundValue.{FoundValue}
 use Rattle.shr_audit_case.specs.declared.journal.Replayed.{Replayed}

@@ -5,8 +5,8 @@ use Rattle.shr_base.specs.declared.places.Place.{Place}
 use Rattle.shr_base.specs.declared.ends.PlaceEnd.{PlaceEnd}
 use Rattle.shr_base.specs.declared.scripts.Script.{Script}
 use Rattle.shr_model.specs.Families.{Family}
-use Rattle.shr_report.specs.declared.report.Report.{Report}
-use Rattle.shr_report.specs.Parts.{journal_of, parents_of}
+use Rattle.shr_laws.specs.declared.report.Report.{Report}
+use Rattle.shr_laws.specs.Parts.{journal_of, parents_of}
 use Rattle.shr_audit_case.specs.declared.journal.Replayed.{Replayed}
 use Rattle.shr_audit_case.specs.Groups.{IsReplayedAt, printed_items}
 use Rattle.shr_audit_case.specs.declared.case.Case.{Case}

@@ -4,7 +4,7 @@ use Rattle.std.specs.List.{AllAdjacentBelow}
 use Rattle.shr_base.specs.declared.places.Place.{Place}
 use Rattle.shr_base.specs.declared.ends.PlaceEnd.{PlaceEnd}
 use Rattle.shr_model.specs.Places.{is_place}
-use Rattle.shr_report.specs.WellFormed.{IsPlaceUpTo}
+use Rattle.shr_laws.specs.WellFormed.{IsPlaceUpTo}
 
 -- lists stand by place, as in a well formed report
 abbrev pub AreInOrder : List PlaceEnd → Type 0

@@ -2,14 +2,14 @@
 
 ghost use Rattle.std.specs.Prelude.{◌≡◌, ◌≤◌, List, [], length, map, take, option_copied, IfOk};
 ghost use Rattle.std.specs.Bool.{Decides};
-ghost use Rattle.shr_model.specs.Groups.{IsTree};
+ghost use Rattle.shr_model.specs.Trees.{IsTree};
 ghost use Rattle.shr_model.specs.Families.{items_at, items_of, lists_moved_at};
 ghost use Rattle.shr_base.specs.declared.objects.Object.{Object};
 ghost use Rattle.shr_base.specs.declared.journals.Entry.{Entry};
 ghost use Rattle.shr_model.specs.Items.{AreOutcomes, items_from};
 ghost use Rattle.shr_audit_case.specs.Journals.{IsReplayed, freed_tags, values_from};
 ghost use Rattle.shr_audit_case.specs.Tags.{tag_of};
-ghost use Rattle.shr_report.specs.Parts.{journals_of, parents_of};
+ghost use Rattle.shr_laws.specs.Parts.{journals_of, parents_of};
 ghost use Rattle.shr_audit_case.specs.Places.{AreInOrder};
 ghost use Rattle.shr_audit_case.specs.Lists.{IsCaseOf, IsReplayOf, TellsReplayed, items_printed_in};
 
@@ -22,7 +22,7 @@ use crate::values::FoundValue;
 use shr_base::memory::Memory;
 use shr_base::places::Place;
 use shr_base::scripts::Script;
-use shr_report::report::Report;
+use shr_laws::report::Report;
 use std::alloc::Global;
 
 /// What is indexed once of a script and its report: the parents of the groups, the root first, and

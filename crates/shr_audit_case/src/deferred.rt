@@ -5,7 +5,7 @@ ghost use Rattle.shr_base.specs.declared.walks.PassRecord.{PassRecord};
 ghost use Rattle.shr_base.specs.declared.walks.Carry.{Carry};
 ghost use Rattle.shr_model.specs.Attempts.{pass_of};
 ghost use Rattle.shr_model.specs.Places.{is_place};
-ghost use Rattle.shr_model.specs.Deferred.{sum_at};
+ghost use Rattle.shr_model.specs.Amounts.{sum_at};
 ghost use Rattle.shr_model.specs.Moves.{is_below, given_at, taken_at};
 ghost use Rattle.shr_model.specs.Deferred.{deferred_word};
 ghost use Rattle.std.specs.Bool.{Decides};

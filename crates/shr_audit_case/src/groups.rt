@@ -4,7 +4,7 @@ ghost use Rattle.std.specs.Prelude.{◌≡◌, ℕ, ◌≤◌, List, [], length,
 ghost use Rattle.shr_base.specs.declared.objects.Object.{Object};
 ghost use Rattle.shr_base.specs.declared.places.Place.{Place};
 ghost use Rattle.shr_model.specs.Families.{Family, lists_moved};
-ghost use Rattle.shr_model.specs.Groups.{IsTree};
+ghost use Rattle.shr_model.specs.Trees.{IsTree};
 ghost use Rattle.shr_audit_case.specs.Groups.{AreJournals, ArePrinted, AreReplayed, printed_entries, printed_items};
 ghost use Rattle.shr_audit_case.specs.Journals.{IsReplayed, given_from};
 ghost use Rattle.shr_audit_case.specs.Replayed.{took_of, given_by, KeepsOthers};

@@ -2,7 +2,7 @@
 
 ghost use Rattle.std.specs.Prelude.{◌≡◌, ◌+◌, ◌-◌, ◌<◌, ◌≤◌, [], length, slice_get, Some, IfOk, OnOk};
 ghost use Rattle.shr_model.specs.Families.{lists_moved};
-ghost use Rattle.shr_model.specs.Groups.{IsTree};
+ghost use Rattle.shr_model.specs.Trees.{IsTree};
 ghost use Rattle.shr_audit_case.specs.Groups.{AreReplayed};
 ghost use Rattle.shr_audit_case.specs.Journals.{IsReplayed};
 ghost use Rattle.shr_audit_case.specs.Replayed.{took_of};

@@ -4,13 +4,13 @@ ghost use Rattle.std.specs.Prelude.{◌≡◌, ℕ, ◌<◌, ◌≤◌, true, fa
 ghost use Rattle.std.specs.Bool.{Decides};
 ghost use Rattle.shr_base.specs.declared.ends.PlaceEnd.{PlaceEnd};
 ghost use Rattle.shr_model.specs.Places.{is_place};
-ghost use Rattle.shr_report.specs.Parts.{journals_of};
+ghost use Rattle.shr_laws.specs.Parts.{journals_of};
 ghost use Rattle.shr_audit_case.specs.Places.{AreInOrder, IsFirst, IsIndexOf, comes_before, end_printed};
 
 use shr_base::ends::PlaceEnd;
 use shr_base::journals::Entry;
 use shr_base::places::Place;
-use shr_report::report::Report;
+use shr_laws::report::Report;
 
 // Whether a place stands before another: by id, then by node, then by group.
 fn comes_before(p: Place, q: Place) -> bool

@@ -1,7 +1,8 @@
 //! The lists that the places of an id on a node give to those of their parent groups.
 
 ghost use Rattle.std.specs.Prelude.{◌≡◌, [], ◌&&◌, nat_lt, IfOk, OnOk};
-ghost use Rattle.shr_model.specs.Families.{child_of, moved_by};
+ghost use Rattle.shr_model.specs.Families.{child_of};
+ghost use Rattle.shr_model.specs.MovedItems.{moved_by};
 ghost use Rattle.shr_model.specs.Groups.{is_child};
 ghost use Rattle.shr_audit_case.specs.Replayed.{took_of, took_after, KeepsOthers};
 ghost use Rattle.shr_audit_case.specs.Replay.{Replays};

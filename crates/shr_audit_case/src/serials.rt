@@ -1,14 +1,14 @@
 //! Commands, answers and walks by their numbers.
 
 ghost use Rattle.std.specs.Prelude.{◌≡◌, option_copied, IfOk};
-ghost use Rattle.shr_report.specs.Parts.{answer_at, command_at, parents_of, walk_at};
+ghost use Rattle.shr_laws.specs.Parts.{answer_at, command_at, parents_of, walk_at};
 
 use shr_base::memory::Memory;
 use shr_base::places::Serial;
 use shr_base::replies::Answered;
 use shr_base::scripts::{Command, Script};
 use shr_base::walks::WalkRecord;
-use shr_report::report::Report;
+use shr_laws::report::Report;
 use std::alloc::Global;
 
 /// The command with this serial, if the script has it. Our own.

@@ -6,8 +6,8 @@ use Rattle.std.proofs.lemmas.List.Sums.{get_or-le-sum_by}
 use Rattle.std.proofs.lemmas.Option.{slice_get_within, get_or_from_slice_get, slice_get-map}
 use Rattle.shr_base.specs.declared.scripts.Script.{Script}
 use Rattle.shr_base.specs.declared.scripts.WorkerScript.{WorkerScript}
-use Rattle.shr_model.specs.Groups.{IsTree}
-use Rattle.shr_report.specs.Parts.{parents_of}
+use Rattle.shr_model.specs.Trees.{IsTree}
+use Rattle.shr_laws.specs.Parts.{parents_of}
 use Rattle.shr_script.specs.Content.{content_of, IsValid}
 use Rattle.shr_script.proofs.BoundsLaws.{within_of_valid}
 use Rattle.shr_audit_rows.specs.Rows.{AreFew}

@@ -1,7 +1,7 @@
 -- The law on causes, and its fields but that on replies.
 use Rattle.shr_base.specs.declared.scripts.Script.{Script}
-use Rattle.shr_report.specs.declared.report.Report.{Report}
-use Rattle.shr_report.specs.CausesLawful.{AreCausesLawful}
+use Rattle.shr_laws.specs.declared.report.Report.{Report}
+use Rattle.shr_laws.specs.CausesLawful.{AreCausesLawful}
 use Rattle.shr_audit_rows.specs.Law.{AreCausesLawfulButReplies}
 use Rattle.shr_audit_causes.specs.Rows.{AreRowsCaused}
 

@@ -22,10 +22,11 @@ pub use Rattle.shr_base.specs.declared.scripts.GroupDecl.{GroupDecl}
 pub use Rattle.shr_base.specs.declared.scripts.Script.{Script}
 pub use Rattle.shr_base.specs.declared.walks.Carry.{Carry}
 pub use Rattle.shr_model.proofs.GroupsOrder.{IsAtOrAbove-le, IsAtOrAbove-refl}
-pub use Rattle.shr_model.specs.Groups.{IsTree, parent_of}
-pub use Rattle.shr_report.specs.Causes.{IsAloneAt, IsOffline, IsOfflineDone, MayHaveBegun, MayHaveSpliced, StandsInTree, objects_moved_from, moved_of}
-pub use Rattle.shr_report.specs.Parts.{EachAnswer, answer_at, answers_in, answers_of, carries_of, command_at, journals_of, parents_of, reply_at, serial_of}
-pub use Rattle.shr_report.specs.declared.report.Report.{Report}
+pub use Rattle.shr_model.specs.Trees.{IsTree}
+pub use Rattle.shr_model.specs.Groups.{parent_of}
+pub use Rattle.shr_laws.specs.Causes.{IsAloneAt, IsOffline, IsOfflineDone, MayHaveBegun, MayHaveSpliced, StandsInTree, objects_moved_from, moved_of}
+pub use Rattle.shr_laws.specs.Parts.{EachAnswer, answer_at, answers_in, answers_of, carries_of, command_at, journals_of, parents_of, reply_at, serial_of}
+pub use Rattle.shr_laws.specs.declared.report.Report.{Report}
 pub use Rattle.shr_audit_causes.specs.Above.{AreAbove, BeganAbove, BeganAt, IsWhose, either, is_only, whose_of}
 pub use Rattle.shr_audit_causes.specs.Carried.{HasCarriedSums, IsCarriedOf, carried_by}
 pub use Rattle.shr_audit_causes.specs.Moved.{AreMoved, AreCappedSums}

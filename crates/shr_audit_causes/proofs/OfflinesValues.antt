@@ -2,7 +2,7 @@
 use Rattle.shr_audit_causes.proofs.OfflinesCommon.{◌≡◌, ℕ, zero, suc, ◌<◌, ◌≤◌, ◌^◌, ◌-◌, true, false, [], ◌∷◌, Some, None, refl, subst, arith, slice_get, IsSomeAnd, GroupDecl, Carry, IsAtOrAbove-le, IsOffline, objects_moved_from, parents_of, reply_at, serial_of, Never, Often, Nobody, One, Several, BeganAbove, BeganAt, IsWhose, either, is_only, whose_of, HasCarriedSums, IsCarriedOf, carried_by, AreCappedSums, HasOfflineCause, IsCarriedSo, IsOfflineCausedAt, IsMoveRight, IsMovedSo, AddsSpliced, AreOnlySpliced, HasSpliced, IsIn, with_spliced_group, MayHaveBegun}
 use Rattle.shr_base.specs.declared.replies.Reply.TheVariants as reply
 use Rattle.shr_base.specs.declared.scripts.Command.TheVariants as command
-use Rattle.shr_report.proofs.OfflineReport.{place, report, script}
+use Rattle.shr_laws.proofs.OfflineReport.{place, report, script}
 use Rattle.shr_audit_causes.proofs.TreeLaws.{tree_of}
 
 -- ---- workers

@@ -14,9 +14,9 @@ pub use Rattle.shr_base.specs.declared.scripts.Script.{Script}
 pub use Rattle.shr_audit_case.specs.Each.{EachFirst}
 pub use Rattle.shr_audit_case.specs.Places.{IsFirst}
 pub use Rattle.shr_audit_formed.specs.Each.{Adjacent, EachItem}
-pub use Rattle.shr_report.specs.Causes.{IsFreed, IsHalf, IsWhy, drained_by, is_idle_entry}
-pub use Rattle.shr_report.specs.Parts.{EachAnswer, EachEntry, answer_at, answers_in, answers_of, command_at, journals_of, reply_at, serial_of}
-pub use Rattle.shr_report.specs.declared.report.Report.{Report}
+pub use Rattle.shr_laws.specs.Causes.{IsFreed, IsHalf, IsWhy, drained_by, is_idle_entry}
+pub use Rattle.shr_laws.specs.Parts.{EachAnswer, EachEntry, answer_at, answers_in, answers_of, command_at, journals_of, reply_at, serial_of}
+pub use Rattle.shr_laws.specs.declared.report.Report.{Report}
 pub use Rattle.shr_audit_causes.specs.Began.{AreBegan, IsUpto, is_idle}
 pub use Rattle.shr_audit_causes.specs.Ended.{AreNotes, IsEnd, IsEndedSo}
 pub use Rattle.shr_audit_causes.specs.Placed.{IsOfId, IsDrainPlaced, id_drained, id_drained_by}

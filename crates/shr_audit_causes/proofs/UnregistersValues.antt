@@ -5,7 +5,7 @@ use Rattle.shr_base.specs.declared.replies.Reply.TheVariants as reply
 use Rattle.shr_base.specs.declared.replies.Spent.TheVariants as spent
 use Rattle.shr_base.specs.declared.scripts.Command.TheVariants as command
 use Rattle.shr_model.specs.Pool.{from_from}
-use Rattle.shr_report.proofs.UnregisterReport.{list_0, place, report, script}
+use Rattle.shr_laws.proofs.UnregisterReport.{list_0, place, report, script}
 use Rattle.shr_audit_causes.specs.declared.ended.Notes.{Notes}
 use Rattle.shr_audit_causes.proofs.SumsLaws.{none_summed}
 

@@ -6,9 +6,9 @@ use Rattle.shr_base.specs.declared.replies.Reply.{Reply}
 use Rattle.shr_base.specs.declared.replies.Reply.TheVariants as reply
 use Rattle.shr_base.specs.declared.scripts.Command.{Command}
 use Rattle.shr_base.specs.declared.scripts.Script.{Script}
-use Rattle.shr_report.specs.declared.report.Report.{Report}
-use Rattle.shr_report.specs.Parts.{EachAnswer}
-use Rattle.shr_report.specs.ReplyTable.{HasCause}
+use Rattle.shr_laws.specs.declared.report.Report.{Report}
+use Rattle.shr_laws.specs.Parts.{EachAnswer}
+use Rattle.shr_laws.specs.ReplyTable.{HasCause}
 use Rattle.shr_audit_rows.specs.Rows.{HasCauseButEnds}
 use Rattle.shr_audit_causes.specs.UnregisterRows.{HasUnregisterCause}
 use Rattle.shr_audit_causes.specs.OfflineRows.{HasOfflineCause}

@@ -3,9 +3,9 @@ use Rattle.std.specs.Prelude.{◌≡◌, ◌≢◌, ℕ, ◌<◌, Bool, true, fa
 use Rattle.shr_base.specs.declared.places.Serial.{Serial}
 use Rattle.shr_base.specs.declared.scripts.Script.{Script}
 use Rattle.shr_model.specs.Groups.{IsAtOrAbove}
-use Rattle.shr_report.specs.declared.report.Report.{Report}
-use Rattle.shr_report.specs.Causes.{IsOffline, MayHaveBegun}
-use Rattle.shr_report.specs.Parts.{parents_of}
+use Rattle.shr_laws.specs.declared.report.Report.{Report}
+use Rattle.shr_laws.specs.Causes.{IsOffline, MayHaveBegun}
+use Rattle.shr_laws.specs.Parts.{parents_of}
 use Rattle.shr_audit_reasons.specs.declared.cites.Cited.{Cited}
 use Rattle.shr_audit_reasons.specs.declared.cites.Cited.TheVariants.{Never, Once, Often}
 use Rattle.shr_audit_causes.specs.declared.above.Whose.{Whose}

@@ -4,8 +4,8 @@ use Rattle.std.specs.List.{list_any}
 use Rattle.shr_base.specs.declared.journals.PoolEntry.{PoolEntry}
 use Rattle.shr_base.specs.declared.journals.PoolEntry.TheVariants.{Registered, Unregistered, Idle}
 use Rattle.shr_model.specs.Pool.{from_of, id_of}
-use Rattle.shr_report.specs.declared.report.Report.{Report}
-use Rattle.shr_report.specs.Causes.{is_idle_entry}
+use Rattle.shr_laws.specs.declared.report.Report.{Report}
+use Rattle.shr_laws.specs.Causes.{is_idle_entry}
 use Rattle.shr_audit_causes.specs.declared.began.Began.{Began}
 
 -- an id became idle with the entry

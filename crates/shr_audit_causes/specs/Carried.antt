@@ -2,8 +2,8 @@
 use Rattle.std.specs.Prelude.{◌≡◌, ℕ, ◌<◌, ◌%◌, ◌^◌, List, length, filter, get_or, sum_by}
 use Rattle.shr_base.specs.declared.walks.Carry.{Carry}
 use Rattle.shr_model.specs.Commands.{is_serial}
-use Rattle.shr_report.specs.declared.report.Report.{Report}
-use Rattle.shr_report.specs.Parts.{answers_of, carries_of, serial_of}
+use Rattle.shr_laws.specs.declared.report.Report.{Report}
+use Rattle.shr_laws.specs.Parts.{answers_of, carries_of, serial_of}
 
 -- what a command carried, of these carries
 abbrev pub carried_by : ℕ → ℕ → List Carry → ℕ

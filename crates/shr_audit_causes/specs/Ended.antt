@@ -3,8 +3,8 @@ use Rattle.std.specs.Prelude.{◌≡◌, ℕ, Bool, take, slice_get, Some}
 use Rattle.shr_base.specs.declared.journals.PoolEntry.TheVariants.{Unregistered}
 use Rattle.shr_base.specs.declared.places.Serial.{Serial}
 use Rattle.shr_model.specs.Pool.{from_of}
-use Rattle.shr_report.specs.declared.report.Report.{Report}
-use Rattle.shr_report.specs.Causes.{became_idle, drained_of}
+use Rattle.shr_laws.specs.declared.report.Report.{Report}
+use Rattle.shr_laws.specs.Causes.{became_idle, drained_of}
 use Rattle.shr_audit_causes.specs.declared.ended.Ended.{Ended}
 use Rattle.shr_audit_causes.specs.declared.ended.Notes.{Notes}
 use Rattle.shr_audit_causes.specs.Began.{AreBegan}

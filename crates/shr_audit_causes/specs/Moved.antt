@@ -1,7 +1,7 @@
 -- How many objects were moved from each group.
 use Rattle.std.specs.Prelude.{◌≡◌, ℕ, ◌-◌, ◌^◌, ◌<◌, min, List, length, get_or}
-use Rattle.shr_report.specs.declared.report.Report.{Report}
-use Rattle.shr_report.specs.Causes.{objects_moved_from}
+use Rattle.shr_laws.specs.declared.report.Report.{Report}
+use Rattle.shr_laws.specs.Causes.{objects_moved_from}
 
 -- the table has the sum of each group, or 2^128 - 1 where that is less
 abbrev pub AreCappedSums : (ℕ → ℕ) → List ℕ → Type 0

@@ -10,10 +10,10 @@ use Rattle.shr_base.specs.declared.scripts.Command.{Command}
 use Rattle.shr_base.specs.declared.scripts.Script.{Script}
 use Rattle.shr_base.specs.declared.walks.Carry.{Carry}
 use Rattle.shr_model.specs.Groups.{IsAtOrAbove}
-use Rattle.shr_report.specs.declared.report.Report.{Report}
-use Rattle.shr_report.specs.Causes.{IsOffline, MayHaveBegun, MayHaveSpliced, StandsInTree, objects_moved_from}
-use Rattle.shr_report.specs.Parts.{answer_at, carries_by, command_at, parents_of, serial_of}
-use Rattle.shr_report.specs.ReplyTable.{HasCause}
+use Rattle.shr_laws.specs.declared.report.Report.{Report}
+use Rattle.shr_laws.specs.Causes.{IsOffline, MayHaveBegun, MayHaveSpliced, StandsInTree, objects_moved_from}
+use Rattle.shr_laws.specs.Parts.{answer_at, carries_by, command_at, parents_of, serial_of}
+use Rattle.shr_laws.specs.ReplyTable.{HasCause}
 use Rattle.shr_audit_causes.specs.declared.offline_rows.Notes.{Notes}
 use Rattle.shr_audit_causes.specs.Above.{AreAbove}
 use Rattle.shr_audit_causes.specs.Moved.{AreMoved}

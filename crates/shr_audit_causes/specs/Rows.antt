@@ -1,8 +1,8 @@
 -- The field of the law on causes that is about replies.
 use Rattle.shr_base.specs.declared.scripts.Script.{Script}
-use Rattle.shr_report.specs.declared.report.Report.{Report}
-use Rattle.shr_report.specs.Parts.{EachAnswer}
-use Rattle.shr_report.specs.ReplyTable.{HasCause}
+use Rattle.shr_laws.specs.declared.report.Report.{Report}
+use Rattle.shr_laws.specs.Parts.{EachAnswer}
+use Rattle.shr_laws.specs.ReplyTable.{HasCause}
 
 -- each answer has its cause
 abbrev pub AreRowsCaused : Script → Report → Type 0

@@ -2,9 +2,9 @@
 use Rattle.std.specs.Prelude.{◌≡◌, ℕ, ◌<◌, ◌↔◌, true, false, Bool, List, length, get_or, slice_set, Option, Some, None}
 use Rattle.shr_base.specs.declared.places.Serial.{Serial}
 use Rattle.shr_base.specs.declared.scripts.Script.{Script}
-use Rattle.shr_report.specs.declared.report.Report.{Report}
-use Rattle.shr_report.specs.Causes.{IsOffline, MayHaveSpliced}
-use Rattle.shr_report.specs.Parts.{serial_of}
+use Rattle.shr_laws.specs.declared.report.Report.{Report}
+use Rattle.shr_laws.specs.Causes.{IsOffline, MayHaveSpliced}
+use Rattle.shr_laws.specs.Parts.{serial_of}
 
 -- a group is in the table
 abbrev pub IsIn : List Bool → ℕ → Type 0

@@ -4,7 +4,7 @@ use Rattle.std.specs.BTreeMap.{BTreeMap, get}
 use Rattle.std.specs.Ordering.{nat_cmp}
 use Rattle.shr_base.specs.declared.ends.PlaceEnd.{PlaceEnd}
 use Rattle.shr_base.specs.declared.places.Serial.{Serial}
-use Rattle.shr_report.specs.Parts.{serial_of}
+use Rattle.shr_laws.specs.Parts.{serial_of}
 
 -- a count, 2^64 - 1 where it is more
 abbrev pub capped : ℕ → ℕ

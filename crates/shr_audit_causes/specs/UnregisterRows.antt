@@ -8,10 +8,10 @@ use Rattle.shr_base.specs.declared.replies.Reply.TheVariants as reply
 use Rattle.shr_base.specs.declared.scripts.Command.{Command}
 use Rattle.shr_base.specs.declared.scripts.Script.{Script}
 use Rattle.shr_model.specs.Commands.{decl_named}
-use Rattle.shr_report.specs.declared.report.Report.{Report}
-use Rattle.shr_report.specs.Causes.{IsWhy}
-use Rattle.shr_report.specs.Parts.{answer_at, command_at, serial_of}
-use Rattle.shr_report.specs.ReplyTable.{HasCause}
+use Rattle.shr_laws.specs.declared.report.Report.{Report}
+use Rattle.shr_laws.specs.Causes.{IsWhy}
+use Rattle.shr_laws.specs.Parts.{answer_at, command_at, serial_of}
+use Rattle.shr_laws.specs.ReplyTable.{HasCause}
 use Rattle.shr_audit_causes.specs.declared.ended.Ended.{Ended}
 use Rattle.shr_audit_causes.specs.Ended.{IsEndedSo}
 

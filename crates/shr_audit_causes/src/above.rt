@@ -1,8 +1,9 @@
 //! The workers that may have begun the offlining of a group above another.
 
 ghost use Rattle.std.specs.Prelude.{◌≡◌, ◌<◌, length, slice_index_or, IfOk};
-ghost use Rattle.shr_model.specs.Groups.{IsTree, parent_of};
-ghost use Rattle.shr_report.specs.Parts.{parents_of};
+ghost use Rattle.shr_model.specs.Trees.{IsTree};
+ghost use Rattle.shr_model.specs.Groups.{parent_of};
+ghost use Rattle.shr_laws.specs.Parts.{parents_of};
 ghost use Rattle.shr_audit_reasons.specs.Cites.{cited_in};
 ghost use Rattle.shr_audit_causes.specs.declared.above.Whose.TheVariants.{Nobody};
 ghost use Rattle.shr_audit_causes.specs.Above.{AreAbove, either, is_only, whose_of};
@@ -11,7 +12,7 @@ use shr_audit_case::serials::parents_of;
 use shr_audit_reasons::cites::{Cited, What, cited_at, note_answers};
 use shr_base::memory::Memory;
 use shr_base::scripts::Script;
-use shr_report::report::Report;
+use shr_laws::report::Report;
 use std::alloc::Global;
 
 /// The workers of which something is so: none, just one, or more. Our own.

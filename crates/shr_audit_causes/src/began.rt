@@ -2,12 +2,12 @@
 
 ghost use Rattle.std.specs.Prelude.{◌≡◌, ◌+◌, ◌<◌, ◌≤◌, length, take, replicate, IfOk, OnOk};
 ghost use Rattle.shr_model.specs.Pool.{from_after, id_of};
-ghost use Rattle.shr_report.specs.Causes.{became_idle, is_idle_entry};
+ghost use Rattle.shr_laws.specs.Causes.{became_idle, is_idle_entry};
 ghost use Rattle.shr_audit_causes.specs.Began.{AreBegan, IsUpto, is_idle};
 
 use shr_base::journals::PoolEntry;
 use shr_base::memory::Memory;
-use shr_report::report::Report;
+use shr_laws::report::Report;
 use std::alloc::Global;
 
 /// For each entry of the journal of registrations the number where the last registration of its id

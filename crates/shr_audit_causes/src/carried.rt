@@ -2,13 +2,13 @@
 
 ghost use Rattle.std.specs.Prelude.{◌≡◌, ◌∷◌, [], ◌++◌, List, length, replicate, IfOk};
 ghost use Rattle.shr_base.specs.declared.walks.Carry.{Carry};
-ghost use Rattle.shr_report.specs.Parts.{carries_of};
+ghost use Rattle.shr_laws.specs.Parts.{carries_of};
 ghost use Rattle.shr_audit_causes.specs.Carried.{HasCarriedSums, IsCarriedOf};
 
 use shr_audit_replies::numbers::count_answers;
 use shr_base::memory::Memory;
 use shr_base::walks::Carry;
-use shr_report::report::Report;
+use shr_laws::report::Report;
 use std::alloc::Global;
 
 // Nothing for each of so many commands.

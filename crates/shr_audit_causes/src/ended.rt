@@ -6,7 +6,7 @@ ghost use Rattle.std.specs.Option.{IsSomeAnd};
 ghost use Rattle.shr_base.specs.declared.journals.PoolEntry.TheVariants.{Unregistered};
 ghost use Rattle.shr_audit_reasons.specs.Counted.{IsCountOf};
 ghost use Rattle.shr_audit_case.specs.Places.{AreInOrder};
-ghost use Rattle.shr_report.specs.Causes.{IsWhy};
+ghost use Rattle.shr_laws.specs.Causes.{IsWhy};
 ghost use Rattle.shr_audit_causes.specs.Ended.{AreNotes, IsEnd, IsEndedSo};
 
 use crate::began::Began;
@@ -18,7 +18,7 @@ use shr_base::memory::Memory;
 use shr_base::places::Serial;
 use shr_base::replies::HalfWhy;
 use shr_base::scripts::Script;
-use shr_report::report::Report;
+use shr_laws::report::Report;
 use std::alloc::Global;
 use std::collections::BTreeMap;
 

@@ -3,8 +3,8 @@
 ghost use Rattle.std.specs.Prelude.{IfOk};
 ghost use Rattle.std.specs.Bool.{Decides};
 ghost use Rattle.shr_audit_causes.specs.Rows.{AreRowsCaused};
-ghost use Rattle.shr_report.specs.CausesLawful.{AreCausesLawful};
-ghost use Rattle.shr_report.specs.WellFormed.{IsWellFormed};
+ghost use Rattle.shr_laws.specs.CausesLawful.{AreCausesLawful};
+ghost use Rattle.shr_laws.specs.WellFormed.{IsWellFormed};
 ghost use Rattle.shr_script.specs.Content.{IsValid, content_of};
 
 use crate::offlines::are_offlines_caused;
@@ -14,7 +14,7 @@ use shr_audit_rows::law::are_causes_lawful_but_replies;
 use shr_audit_rows::rows::are_rows_caused_but_ends;
 use shr_base::memory::Memory;
 use shr_base::scripts::Script;
-use shr_report::report::Report;
+use shr_laws::report::Report;
 use std::alloc::Global;
 
 // Whether each answer has its cause.

@@ -3,7 +3,7 @@
 ghost use Rattle.std.specs.Prelude.{◌≡◌, ℕ, ◌+◌, ◌*◌, ◌≤◌, ◌<◌, ◌==◌, cond, length, replicate, slice_get, sum_by, Some, IfOk};
 ghost use Rattle.shr_base.specs.declared.ends.PlaceEnd.{PlaceEnd};
 ghost use Rattle.shr_audit_case.specs.Places.{AreInOrder};
-ghost use Rattle.shr_report.specs.Causes.{moved_of};
+ghost use Rattle.shr_laws.specs.Causes.{moved_of};
 ghost use Rattle.shr_audit_causes.specs.Moved.{AreMoved, AreCappedSums};
 
 use shr_audit_case::places::journal_at;
@@ -11,7 +11,7 @@ use shr_base::ends::PlaceEnd;
 use shr_base::journals::Entry;
 use shr_base::memory::Memory;
 use shr_base::places::Place;
-use shr_report::report::Report;
+use shr_laws::report::Report;
 use std::alloc::Global;
 
 // No objects of so many groups.

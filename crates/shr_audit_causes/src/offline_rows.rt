@@ -3,8 +3,8 @@
 ghost use Rattle.std.specs.Prelude.{ℕ, ◌<◌, length, IfOk};
 ghost use Rattle.std.specs.Bool.{Decides};
 ghost use Rattle.shr_audit_case.specs.Places.{AreInOrder};
-ghost use Rattle.shr_model.specs.Groups.{IsTree};
-ghost use Rattle.shr_report.specs.Parts.{parents_of};
+ghost use Rattle.shr_model.specs.Trees.{IsTree};
+ghost use Rattle.shr_laws.specs.Parts.{parents_of};
 ghost use Rattle.shr_audit_causes.specs.Carried.{IsCarriedOf};
 ghost use Rattle.shr_audit_causes.specs.OfflineRows.{AreOfflineNotes, IsSoleSplicer, IsCarriedSo, IsOfflineCausedAt, IsMoveRight, IsMovedSo};
 
@@ -18,7 +18,7 @@ use shr_audit_rows::named::group_named;
 use shr_base::memory::Memory;
 use shr_base::replies::Reply;
 use shr_base::scripts::Script;
-use shr_report::report::Report;
+use shr_laws::report::Report;
 use std::alloc::Global;
 
 /// What is noted once of a script and a report: by groups, how many objects were moved from each,

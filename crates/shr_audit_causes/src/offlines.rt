@@ -3,14 +3,14 @@
 ghost use Rattle.std.specs.Prelude.{IfOk};
 ghost use Rattle.std.specs.Bool.{Decides};
 ghost use Rattle.shr_audit_case.specs.Places.{AreInOrder};
-ghost use Rattle.shr_model.specs.Groups.{IsTree};
-ghost use Rattle.shr_report.specs.Parts.{EachAnswer, parents_of};
+ghost use Rattle.shr_model.specs.Trees.{IsTree};
+ghost use Rattle.shr_laws.specs.Parts.{EachAnswer, parents_of};
 ghost use Rattle.shr_audit_causes.specs.OfflineRows.{HasOfflineCause};
 
 use crate::offline_rows::{are_caused, noted};
 use shr_base::memory::Memory;
 use shr_base::scripts::Script;
-use shr_report::report::Report;
+use shr_laws::report::Report;
 use std::alloc::Global;
 
 /// Whether each answer to an `offline` that was done has its cause in the report: its Done, what it

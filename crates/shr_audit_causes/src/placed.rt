@@ -5,7 +5,7 @@ ghost use Rattle.std.specs.Bool.{Decides};
 ghost use Rattle.shr_audit_case.specs.Each.{EachFirst};
 ghost use Rattle.shr_audit_case.specs.Places.{AreInOrder};
 ghost use Rattle.shr_audit_formed.specs.Each.{EachItem};
-ghost use Rattle.shr_report.specs.Parts.{EachEntry};
+ghost use Rattle.shr_laws.specs.Parts.{EachEntry};
 ghost use Rattle.shr_audit_causes.specs.Placed.{IsOfId, IsDrainPlaced, id_drained, id_drained_by};
 
 use shr_audit_case::places::is_first;
@@ -15,7 +15,7 @@ use shr_base::journals::Entry;
 use shr_base::places::{Place, Serial};
 use shr_base::replies::Reply;
 use shr_base::scripts::Script;
-use shr_report::report::Report;
+use shr_laws::report::Report;
 
 // The id that the answer to an `unregister` that drained tells of.
 fn id_drained(reply: &Reply) -> Option<u16>

@@ -3,15 +3,15 @@
 ghost use Rattle.std.specs.Prelude.{◌≡◌, ℕ, ◌↔◌, Some, replicate, false, IfOk};
 ghost use Rattle.std.specs.Bool.{Decides};
 ghost use Rattle.shr_base.specs.declared.scripts.Command.TheVariants.{Offline};
-ghost use Rattle.shr_report.specs.Causes.{IsOffline, MayHaveSpliced};
-ghost use Rattle.shr_report.specs.Parts.{serial_of};
+ghost use Rattle.shr_laws.specs.Causes.{IsOffline, MayHaveSpliced};
+ghost use Rattle.shr_laws.specs.Parts.{serial_of};
 ghost use Rattle.shr_audit_causes.specs.Spliced.{HasSplicedGroups, NotesWorkerSpliced, with_spliced_group};
 
 use shr_audit_replies::numbers::{answer_of, command_of, count_answers};
 use shr_base::memory::Memory;
 use shr_base::replies::Reply;
 use shr_base::scripts::{Command, Script};
-use shr_report::report::Report;
+use shr_laws::report::Report;
 use std::alloc::Global;
 
 // Whether an `offline` that was answered so may have spliced lists and told of none.

@@ -7,7 +7,7 @@ ghost use Rattle.shr_base.specs.declared.places.Serial.{Serial};
 ghost use Rattle.shr_audit_case.specs.Places.{AreInOrder};
 ghost use Rattle.shr_model.specs.Commands.{is_serial};
 ghost use Rattle.shr_model.specs.Places.{is_place};
-ghost use Rattle.shr_report.specs.Causes.{drained_by, drained_of};
+ghost use Rattle.shr_laws.specs.Causes.{drained_by, drained_of};
 ghost use Rattle.shr_audit_causes.specs.Sums.{AreSums, IsSerialKeyed, IsNothing, AreOfOnePlace, capped, drained_key};
 
 use shr_audit_case::places::journal_at;
@@ -15,7 +15,7 @@ use shr_base::ends::PlaceEnd;
 use shr_base::journals::Entry;
 use shr_base::memory::Memory;
 use shr_base::places::{Place, Serial};
-use shr_report::report::Report;
+use shr_laws::report::Report;
 use std::alloc::Global;
 use std::collections::BTreeMap;
 

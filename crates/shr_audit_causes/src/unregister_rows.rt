@@ -15,7 +15,7 @@ use shr_audit_rows::named::decl_named;
 use shr_base::places::Serial;
 use shr_base::replies::Reply;
 use shr_base::scripts::{Command, Script};
-use shr_report::report::Report;
+use shr_laws::report::Report;
 
 // Whether an answer, if it is that of an `unregister` that drained, is right of its entry, of where
 // its registration began, of its objects, and of whether its id is idle afterwards.

@@ -5,7 +5,7 @@ ghost use Rattle.std.specs.Bool.{Decides};
 ghost use Rattle.shr_audit_rows.specs.Rows.{AreFew};
 ghost use Rattle.shr_audit_reasons.specs.Counted.{IsCountOf};
 ghost use Rattle.shr_audit_case.specs.Places.{AreInOrder};
-ghost use Rattle.shr_report.specs.Parts.{EachAnswer};
+ghost use Rattle.shr_laws.specs.Parts.{EachAnswer};
 ghost use Rattle.shr_audit_causes.specs.UnregisterRows.{HasUnregisterCause};
 
 use crate::ended::Notes;
@@ -14,7 +14,7 @@ use crate::unregister_rows::are_caused;
 use shr_audit_reasons::counted::Counted;
 use shr_base::memory::Memory;
 use shr_base::scripts::Script;
-use shr_report::report::Report;
+use shr_laws::report::Report;
 use std::alloc::Global;
 
 /// Whether each answer to an `unregister` that drained has its cause in the report: its entry, where

@@ -27,14 +27,15 @@ pub use Rattle.shr_model.specs.Charges.{AreTakenBack, IsBelow, IsChargeHistory, 
 pub use Rattle.shr_model.specs.Commands.{is_serial}
 pub use Rattle.shr_model.specs.Families.{items_at, items_of, lists_moved_at}
 pub use Rattle.shr_model.specs.Freeings.{Freeing, born_below, freeings_at, is_at_or_above}
-pub use Rattle.shr_model.specs.Groups.{Hierarchy, IsTree, is_child, is_later, parent_of, path_of}
+pub use Rattle.shr_model.specs.Groups.{Hierarchy, is_child, is_later, parent_of, path_of}
+pub use Rattle.shr_model.specs.Trees.{IsTree}
 pub use Rattle.shr_model.specs.Items.{freed_by}
 pub use Rattle.shr_model.specs.TreeJournal.{IsTreeJournal}
 pub use Rattle.shr_audit_case.specs.declared.tags.FreedTag.{FreedTag}
-pub use Rattle.shr_report.specs.Charges.{AreChargesLawful, IsDownBetween, charged, freed_in_command, is_of, listed_below}
-pub use Rattle.shr_report.specs.Numbers.{HasNumbers, IsEntryNumbered, IsIsolationNumbered, IsListNumbered, IsPartNumbered, IsUseNumbered, IsWalkNumbered}
-pub use Rattle.shr_report.specs.Parts.{answer_at, command_at, commands_in, entry_by, isolations_in, journal_of, journals_of, later_of, limit_of, limits_of, parents_of, reply_at, serial_of, walks_in}
-pub use Rattle.shr_report.specs.declared.report.Report.{Report}
+pub use Rattle.shr_laws.specs.Charges.{AreChargesLawful, IsDownBetween, charged, freed_in_command, is_of, listed_below}
+pub use Rattle.shr_laws.specs.Numbers.{HasNumbers, IsEntryNumbered, IsIsolationNumbered, IsListNumbered, IsPartNumbered, IsUseNumbered, IsWalkNumbered}
+pub use Rattle.shr_laws.specs.Parts.{answer_at, command_at, commands_in, entry_by, isolations_in, journal_of, journals_of, later_of, limit_of, limits_of, parents_of, reply_at, serial_of, walks_in}
+pub use Rattle.shr_laws.specs.declared.report.Report.{Report}
 pub use Rattle.shr_audit_case.specs.declared.moves.Move.{Move}
 pub use Rattle.shr_audit_charges.specs.Balance.{AreBalanced, unit}
 pub use Rattle.shr_audit_charges.specs.History.{AreCharged, AreNone, AreUsagesOf, FoundSo, IsNextOfGroup, with_use, put_usage, usage_of, usage_with, group_uses}

@@ -2,9 +2,9 @@
 use Rattle.std.specs.Prelude.{ℕ, ◌≤◌, length, IfSome}
 use Rattle.shr_base.specs.declared.scripts.Script.{Script}
 use Rattle.shr_model.specs.TreeJournal.{IsTreeJournal}
-use Rattle.shr_report.specs.declared.report.Report.{Report}
-use Rattle.shr_report.specs.Charges.{listed_below}
-use Rattle.shr_report.specs.Parts.{script_hierarchy, limit_of, limits_of, parents_of}
+use Rattle.shr_laws.specs.declared.report.Report.{Report}
+use Rattle.shr_laws.specs.Charges.{listed_below}
+use Rattle.shr_laws.specs.Parts.{script_hierarchy, limit_of, limits_of, parents_of}
 use Rattle.shr_audit_charges.specs.History.{AreCharged}
 use Rattle.shr_audit_charges.specs.Left.{AreFinal}
 use Rattle.shr_audit_charges.specs.Own.{AreOwnRight}

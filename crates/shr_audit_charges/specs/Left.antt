@@ -7,8 +7,8 @@ use Rattle.shr_model.specs.Families.{items_of}
 use Rattle.shr_model.specs.Freeings.{born_below}
 use Rattle.shr_audit_case.specs.declared.tags.Tag.{Tag}
 use Rattle.shr_audit_case.specs.Tags.{tag_of}
-use Rattle.shr_report.specs.declared.report.Report.{Report}
-use Rattle.shr_report.specs.Parts.{journals_of, places_of}
+use Rattle.shr_laws.specs.declared.report.Report.{Report}
+use Rattle.shr_laws.specs.Parts.{journals_of, places_of}
 use Rattle.shr_audit_charges.specs.declared.history.Usage.{Usage}
 use Rattle.shr_audit_charges.specs.History.{group_uses}
 use Rattle.shr_audit_charges.specs.Own.{limit_in}

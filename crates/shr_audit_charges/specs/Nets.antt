@@ -15,9 +15,9 @@ use Rattle.shr_model.specs.Charges.{usage_after, ops_by}
 use Rattle.shr_model.specs.Families.{lists_moved_at}
 use Rattle.shr_audit_case.specs.declared.tags.FreedTag.{FreedTag}
 use Rattle.shr_audit_case.specs.Journals.{freed_tags}
-use Rattle.shr_report.specs.declared.report.Report.{Report}
-use Rattle.shr_report.specs.Charges.{charged, freed_below}
-use Rattle.shr_report.specs.Parts.{answer_at, command_at, entry_by, isolation_at, journals_of, parents_of, reply_at, serial_of}
+use Rattle.shr_laws.specs.declared.report.Report.{Report}
+use Rattle.shr_laws.specs.Charges.{charged, freed_below}
+use Rattle.shr_laws.specs.Parts.{answer_at, command_at, entry_by, isolation_at, journals_of, parents_of, reply_at, serial_of}
 use Rattle.shr_audit_charges.specs.History.{group_uses}
 use Rattle.shr_audit_charges.specs.Paths.{path_keys}
 

@@ -3,7 +3,7 @@ use Rattle.std.specs.Prelude.{◌≡◌, ℕ, ◌+◌, ◌*◌, ◌<◌, ◌≤�
 use Rattle.shr_base.specs.declared.places.Serial.{Serial}
 use Rattle.shr_base.specs.declared.journals.UseStep.{UseStep}
 use Rattle.shr_model.specs.Charges.{ups, ops_by, is_refused, AreTakenBack}
-use Rattle.shr_report.specs.Charges.{IsDownBetween}
+use Rattle.shr_laws.specs.Charges.{IsDownBetween}
 use Rattle.shr_audit_charges.specs.declared.own.Own.{Own}
 use Rattle.shr_audit_charges.specs.History.{group_uses}
 

@@ -4,7 +4,7 @@ use Rattle.std.specs.Option.{IsSomeAnd}
 use Rattle.shr_base.specs.declared.journals.UseStep.{UseStep}
 use Rattle.shr_base.specs.declared.scripts.Script.{Script}
 use Rattle.shr_model.specs.Commands.{is_put}
-use Rattle.shr_report.specs.Parts.{command_at}
+use Rattle.shr_laws.specs.Parts.{command_at}
 use Rattle.shr_audit_formed.specs.Each.{EachItem}
 
 -- an operation that goes up is of a put

@@ -1,7 +1,7 @@
 //! The groups at or above another, each with a command by one number.
 
 ghost use Rattle.std.specs.Prelude.{◌≡◌, ◌++◌, ◌<◌, length, OnOk};
-ghost use Rattle.shr_model.specs.Groups.{IsTree};
+ghost use Rattle.shr_model.specs.Trees.{IsTree};
 ghost use Rattle.shr_audit_charges.specs.Own.{IsKeyed, own_key};
 ghost use Rattle.shr_audit_charges.specs.Paths.{path_keys, start_of};
 

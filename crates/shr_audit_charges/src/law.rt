@@ -3,10 +3,10 @@
 ghost use Rattle.std.specs.Prelude.{◌≡◌, IfOk};
 ghost use Rattle.std.specs.Bool.{Decides};
 ghost use Rattle.shr_audit_case.specs.Lists.{IsCaseOf};
-ghost use Rattle.shr_model.specs.Groups.{IsTree};
-ghost use Rattle.shr_report.specs.Charges.{AreChargesLawful};
-ghost use Rattle.shr_report.specs.Numbers.{HasNumbers};
-ghost use Rattle.shr_report.specs.Parts.{later_of, limits_of, parents_of};
+ghost use Rattle.shr_model.specs.Trees.{IsTree};
+ghost use Rattle.shr_laws.specs.Charges.{AreChargesLawful};
+ghost use Rattle.shr_laws.specs.Numbers.{HasNumbers};
+ghost use Rattle.shr_laws.specs.Parts.{later_of, limits_of, parents_of};
 ghost use Rattle.shr_audit_charges.specs.Law.{AreUsesLawful, IsTreeLawful};
 ghost use Rattle.shr_audit_charges.specs.Nets.{AreWorkersFew};
 
@@ -19,7 +19,7 @@ use crate::tree::is_tree_journal;
 use shr_audit_case::case::Case;
 use shr_base::memory::Memory;
 use shr_base::scripts::Script;
-use shr_report::report::Report;
+use shr_laws::report::Report;
 use std::alloc::Global;
 
 // Whether each group isn't there at the start, the root first.

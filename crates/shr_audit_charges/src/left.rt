@@ -7,8 +7,8 @@ ghost use Rattle.std.specs.List.{AllByRecursion};
 ghost use Rattle.shr_base.specs.declared.ends.PlaceEnd.{PlaceEnd};
 ghost use Rattle.shr_base.specs.declared.journals.UseStep.{UseStep};
 ghost use Rattle.shr_audit_case.specs.Lists.{IsReplayOf};
-ghost use Rattle.shr_model.specs.Groups.{IsTree};
-ghost use Rattle.shr_report.specs.declared.report.Report.{Report};
+ghost use Rattle.shr_model.specs.Trees.{IsTree};
+ghost use Rattle.shr_laws.specs.declared.report.Report.{Report};
 ghost use Rattle.shr_audit_charges.specs.Left.{AreFinal, AreWithin, IsWithinLimit, left_keys, tag_keys};
 
 use crate::balance::are_balanced;
@@ -22,7 +22,7 @@ use shr_base::ends::PlaceEnd;
 use shr_base::journals::UseStep;
 use shr_base::memory::Memory;
 use shr_base::places::Serial;
-use shr_report::report::Report;
+use shr_laws::report::Report;
 use std::alloc::Global;
 
 const NONE: Serial = Serial {

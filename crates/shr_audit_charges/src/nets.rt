@@ -6,9 +6,9 @@ ghost use Rattle.std.specs.List.{AllByRecursion};
 ghost use Rattle.shr_base.specs.declared.ends.PlaceEnd.{PlaceEnd};
 ghost use Rattle.shr_base.specs.declared.journals.UseStep.{UseStep};
 ghost use Rattle.shr_audit_case.specs.Lists.{IsCaseOf, IsReplayOf};
-ghost use Rattle.shr_model.specs.Groups.{IsTree};
-ghost use Rattle.shr_report.specs.Numbers.{HasNumbers};
-ghost use Rattle.shr_report.specs.Parts.{answer_at, entry_by, parents_of, scanning_command};
+ghost use Rattle.shr_model.specs.Trees.{IsTree};
+ghost use Rattle.shr_laws.specs.Numbers.{HasNumbers};
+ghost use Rattle.shr_laws.specs.Parts.{answer_at, entry_by, parents_of, scanning_command};
 ghost use Rattle.shr_audit_charges.specs.Nets.{AreWorkersFew, AreNets, answer_keys, by_keys, charge_keys, commands_keys, freeing_command, freed_keys, isolation_by, place_keys, workers_keys};
 
 use crate::balance::are_balanced;
@@ -24,7 +24,7 @@ use shr_base::memory::Memory;
 use shr_base::places::Serial;
 use shr_base::replies::Reply;
 use shr_base::scripts::{Command, Script, WorkerScript};
-use shr_report::report::Report;
+use shr_laws::report::Report;
 use std::alloc::Global;
 
 // The command of the walk or the isolation with this number in a Scan entry.

@@ -3,7 +3,8 @@
 ghost use Rattle.std.specs.Prelude.{◌≡◌, ℕ, ◌<◌, true, false, length, slice_index_or, vec_len, IfOk};
 ghost use Rattle.std.specs.Bool.{Decides};
 ghost use Rattle.shr_base.specs.declared.journals.TreeEntry.TheVariants.{Begin, Done, Made};
-ghost use Rattle.shr_model.specs.Groups.{Hierarchy, IsTree, is_later};
+ghost use Rattle.shr_model.specs.Groups.{Hierarchy, is_later};
+ghost use Rattle.shr_model.specs.Trees.{IsTree};
 ghost use Rattle.shr_model.specs.TreeJournal.{IsTreeJournal};
 ghost use Rattle.shr_audit_charges.specs.declared.tree.GroupState.{GroupState};
 ghost use Rattle.shr_audit_charges.specs.Tree.{AreFirstStates, HasUndone, IsUndone, MayBeDoneNow, MayBeMadeNow, MayBeginNow, MayStandNow, entry_group, hierarchy, with_tree_entry, group_state_with};

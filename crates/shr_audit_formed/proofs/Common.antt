@@ -17,7 +17,7 @@ pub use Rattle.shr_base.specs.declared.walks.PlainWalk.{PlainWalk}
 pub use Rattle.shr_model.specs.Paths.{is_path}
 pub use Rattle.shr_model.specs.Places.{unit_of}
 pub use Rattle.shr_model.specs.Words.{is_name}
-pub use Rattle.shr_report.specs.WellFormed.{HasWords, IsAmountWell, IsBitWord, IsCarryBefore, IsPartWell, IsPlaceBefore, IsPlaceUpTo, IsPlaceWell, IsPoolAmountWell, IsPoolNumbered, IsSpelled, IsTreeNumbered, IsUseBefore, IsWalkWell, IsWellFormed, LendsWord, bit_places, units_place}
+pub use Rattle.shr_laws.specs.WellFormed.{HasWords, IsAmountWell, IsBitWord, IsCarryBefore, IsPartWell, IsPlaceBefore, IsPlaceUpTo, IsPlaceWell, IsPoolAmountWell, IsPoolNumbered, IsSpelled, IsTreeNumbered, IsUseBefore, IsWalkWell, IsWellFormed, LendsWord, bit_places, units_place}
 pub use Rattle.shr_audit_formed.specs.Each.{Adjacent, EachItem, IsListFormed, IsUnitLoaded, IsWorkerCommand, IsWalkFormed}
 pub use Rattle.shr_audit_formed.specs.Formed.{AreHeadsFormed, AreListsFormed, AreMapsPrinted, ArePartsFormed, AreTablesFormed, AreWalksFormed, IsLastFormed, IsPartFormed}
 pub use Rattle.shr_audit_formed.specs.Stripped.{IsNotStripped, Where, at_unit, group_places, unit_places, wheres}

@@ -2,7 +2,7 @@
 use Rattle.shr_audit_formed.proofs.Common.{◌≡◌, ℕ, zero, suc, ◌+◌, ◌<◌, Bool, true, false, List, [], ◌∷◌, ◌++◌, length, flat_map, map, refl, sym, ap, ◌∙◌, arith, Decides, range_with_len, ◌==◌, MapEnd, Where, wheres, IsNotStripped, append_assoc}
 use Rattle.std.proofs.lemmas.List.{append-nil, append_cancel_left}
 use Rattle.std.proofs.lemmas.List.Concat.{flat_map-append}
-use Rattle.shr_report.proofs.FirstLawful.{zero_not}
+use Rattle.shr_laws.proofs.FirstLawful.{zero_not}
 
 pub one_on : (n : ℕ) → suc n + 1 ≡ suc (n + 1)
 one_on n = omega arith

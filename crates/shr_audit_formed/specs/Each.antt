@@ -4,7 +4,7 @@ use Rattle.std.specs.List.{AllByRecursion}
 use Rattle.shr_model.specs.Places.{unit_of}
 use Rattle.shr_base.specs.Walks.{Attempt, WalkRecord}
 use Rattle.shr_base.specs.declared.ends.PlaceEnd.{PlaceEnd}
-use Rattle.shr_report.specs.WellFormed.{HasWords, IsBitWord, IsNumbered, IsSpelled}
+use Rattle.shr_laws.specs.WellFormed.{HasWords, IsBitWord, IsNumbered, IsSpelled}
 use Rattle.shr_base.specs.declared.places.Serial.{Serial}
 use Rattle.shr_base.specs.declared.walks.MapSeen.{MapSeen}
 

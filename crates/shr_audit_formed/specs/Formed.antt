@@ -8,8 +8,8 @@ use Rattle.shr_base.specs.declared.walks.Carry.{Carry}
 use Rattle.shr_base.specs.declared.walks.PlainWalk.{PlainWalk}
 use Rattle.shr_base.specs.declared.walks.Isolation.{Isolation}
 use Rattle.shr_base.specs.declared.ends.WorkerPart.{WorkerPart}
-use Rattle.shr_report.specs.declared.report.Report.{Report}
-use Rattle.shr_report.specs.WellFormed.{LendsWord, IsCarryBefore, IsPoolNumbered, IsTreeNumbered, IsBitWord, IsAmountWell, IsPoolAmountWell, IsUseBefore, IsPlaceBefore, IsPlaceUpTo, units_place, bit_places}
+use Rattle.shr_laws.specs.declared.report.Report.{Report}
+use Rattle.shr_laws.specs.WellFormed.{LendsWord, IsCarryBefore, IsPoolNumbered, IsTreeNumbered, IsBitWord, IsAmountWell, IsPoolAmountWell, IsUseBefore, IsPlaceBefore, IsPlaceUpTo, units_place, bit_places}
 use Rattle.shr_audit_formed.specs.Each.{EachItem, Adjacent, IsWorkerCommand, IsWalkFormed, IsListFormed}
 use Rattle.shr_audit_formed.specs.Stripped.{wheres}
 

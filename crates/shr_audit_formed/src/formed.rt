@@ -2,7 +2,7 @@
 
 ghost use Rattle.std.specs.Prelude.{◌<◌, ◌^◌};
 ghost use Rattle.std.specs.Bool.{Decides};
-ghost use Rattle.shr_report.specs.WellFormed.{IsBitWord, IsWellFormed};
+ghost use Rattle.shr_laws.specs.WellFormed.{IsBitWord, IsWellFormed};
 ghost use Rattle.shr_audit_formed.specs.Formed.{AreCarriesFormed, AreHeadsFormed, AreListsFormed, AreMapsPrinted, AreOthersFormed, ArePartsFormed, AreTablesFormed, AreWalksFormed, IsLastFormed, IsPartFormed};
 
 use crate::lists::{lists_are_well, lists_stand};
@@ -17,7 +17,7 @@ use crate::tables::{
 };
 use shr_base::ends::WorkerPart;
 use shr_base::walks::{Carry, Isolation, PlainWalk, WalkRecord};
-use shr_report::report::Report;
+use shr_laws::report::Report;
 
 // Whether the walks of a worker are as those that are printed.
 fn are_walks_well(walks: &[WalkRecord], worker: usize, answers: usize) -> bool

@@ -2,7 +2,7 @@
 
 ghost use Rattle.std.specs.Bool.{Decides};
 ghost use Rattle.std.specs.List.{AllByRecursion};
-ghost use Rattle.shr_report.specs.WellFormed.{HasWords, IsNumbered, IsPlaceUpTo, IsSpelled};
+ghost use Rattle.shr_laws.specs.WellFormed.{HasWords, IsNumbered, IsPlaceUpTo, IsSpelled};
 ghost use Rattle.shr_audit_formed.specs.Each.{Adjacent, EachItem, IsListFormed};
 
 use crate::tables::is_place_up_to;

@@ -3,7 +3,7 @@
 ghost use Rattle.std.specs.Prelude.{◌≡◌, [], ◌∷◌, ◌++◌, IfSome, IfNone};
 ghost use Rattle.std.specs.Bool.{Decides};
 ghost use Rattle.std.specs.List.{range_with_len};
-ghost use Rattle.shr_report.specs.WellFormed.{bit_places};
+ghost use Rattle.shr_laws.specs.WellFormed.{bit_places};
 ghost use Rattle.shr_audit_formed.specs.Stripped.{IsNotStripped, at_unit, unit_places, group_places, wheres};
 
 use shr_base::ends::MapEnd;

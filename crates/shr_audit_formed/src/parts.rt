@@ -3,7 +3,7 @@
 ghost use Rattle.std.specs.Prelude.{◌≡◌, ◌≢◌, ◌<◌, ◌≤◌};
 ghost use Rattle.std.specs.Bool.{Decides};
 ghost use Rattle.shr_model.specs.Places.{unit_of};
-ghost use Rattle.shr_report.specs.WellFormed.{IsBitWord, IsCarryBefore, LendsWord};
+ghost use Rattle.shr_laws.specs.WellFormed.{IsBitWord, IsCarryBefore, LendsWord};
 ghost use Rattle.shr_audit_formed.specs.Each.{Adjacent, AreAttemptsFormed, AreMapsFormed, EachItem, IsUnitLoaded, IsWorkerCommand, IsWalkFormed};
 
 use crate::words::is_value;

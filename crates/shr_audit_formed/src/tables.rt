@@ -4,7 +4,7 @@ ghost use Rattle.std.specs.Prelude.{◌≡◌, ◌<◌, ◌^◌, true, length};
 ghost use Rattle.std.specs.Bool.{Decides};
 ghost use Rattle.shr_model.specs.Paths.{is_path};
 ghost use Rattle.shr_model.specs.Words.{is_name};
-ghost use Rattle.shr_report.specs.WellFormed.{IsAmountWell, IsBitWord, IsPlaceBefore, IsPlaceUpTo, IsPoolAmountWell, IsPoolNumbered, IsTreeNumbered, IsUseBefore, units_place};
+ghost use Rattle.shr_laws.specs.WellFormed.{IsAmountWell, IsBitWord, IsPlaceBefore, IsPlaceUpTo, IsPoolAmountWell, IsPoolNumbered, IsTreeNumbered, IsUseBefore, units_place};
 ghost use Rattle.shr_audit_formed.specs.Each.{Adjacent, EachItem};
 
 use crate::words::is_name;

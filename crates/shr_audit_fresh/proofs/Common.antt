@@ -27,10 +27,10 @@ pub use Rattle.shr_model.proofs.Lists.{all_both, some_injective, some_same, zero
 pub use Rattle.shr_model.specs.Commands.{asks_online, is_serial}
 pub use Rattle.shr_model.specs.TreeJournal.{is_begin, is_done}
 pub use Rattle.shr_report.proofs.Reading.{either}
-pub use Rattle.shr_report.specs.Freshness.{AreBelow, IsFresh, MayBeOffline, asks_made, is_begin_at, is_done_at, is_past_group, made_shown, of_answer, pool_made, pool_seen, pool_told, shown_by, shows_begin, shows_made, shows_offline, tree_cited, tree_seen, walk_cited}
-pub use Rattle.shr_report.specs.Parts.{answer_at, answers_in, answers_of, command_at, commands_of, decls_on, reply_at, serial_of, walks_in, walks_of}
-pub use Rattle.shr_report.specs.WellFormed.{AreNotFalling, IsTreeNumbered}
-pub use Rattle.shr_report.specs.declared.report.Report.{Report}
+pub use Rattle.shr_laws.specs.Freshness.{AreBelow, IsFresh, MayBeOffline, asks_made, is_begin_at, is_done_at, is_past_group, made_shown, of_answer, pool_made, pool_seen, pool_told, shown_by, shows_begin, shows_made, shows_offline, tree_cited, tree_seen, walk_cited}
+pub use Rattle.shr_laws.specs.Parts.{answer_at, answers_in, answers_of, command_at, commands_of, decls_on, reply_at, serial_of, walks_in, walks_of}
+pub use Rattle.shr_laws.specs.WellFormed.{AreNotFalling, IsTreeNumbered}
+pub use Rattle.shr_laws.specs.declared.report.Report.{Report}
 pub use Rattle.shr_audit_fresh.specs.Firsts.{AreLeastOfGroups, FirstCommands, HasNoFirsts, IsLeast, NotesFirst, first_with, is_group, shows_in}
 pub use Rattle.shr_audit_fresh.specs.Floors.{AreFloors, AreKnownBelow, FloorWith, IsFloor, IsFloorBefore, IsHigher, Reaches, walks_cite}
 pub use Rattle.shr_audit_fresh.specs.Rising.{After, NeverFallsFrom}

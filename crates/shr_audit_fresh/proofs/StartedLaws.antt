@@ -3,7 +3,7 @@ use Rattle.shr_audit_fresh.proofs.Common.{◌≡◌, ℕ, zero, suc, ◌<◌, �
 use Rattle.shr_base.specs.declared.journals.TreeEntry.TheVariants.{Begin, Done, Made}
 use Rattle.shr_audit_reasons.specs.declared.cites.What.TheVariants as say
 use Rattle.shr_audit_reasons.proofs.Treeing.{begun_of, of_begun}
-use Rattle.shr_report.specs.Causes.{IsOffline, MayHaveBegun}
+use Rattle.shr_laws.specs.Causes.{IsOffline, MayHaveBegun}
 use Rattle.shr_audit_fresh.proofs.Answering.{of_past}
 use Rattle.shr_audit_fresh.proofs.MadeLaws.{group_is, is_the_group}
 use Rattle.shr_audit_fresh.proofs.WalkFloors.{kept, on_command}

@@ -3,8 +3,8 @@ use Rattle.std.specs.Prelude.{ℕ, ◌<◌, ◌≤◌, ◌↔◌, List, length, 
 use Rattle.std.specs.List.{AllByRecursion}
 use Rattle.shr_base.specs.Walks.{WalkRecord}
 use Rattle.shr_model.specs.Commands.{is_serial}
-use Rattle.shr_report.specs.Freshness.{AreBelow, walk_cited}
-use Rattle.shr_report.specs.Parts.{serial_of}
+use Rattle.shr_laws.specs.Freshness.{AreBelow, walk_cited}
+use Rattle.shr_laws.specs.Parts.{serial_of}
 
 -- the numbers that are above each of these are those from this one on
 abbrev pub IsFloor : List ℕ → ℕ → Type 0

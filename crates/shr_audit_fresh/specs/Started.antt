@@ -6,9 +6,9 @@ use Rattle.shr_base.specs.Walks.{WalkRecord}
 use Rattle.shr_audit_reasons.specs.declared.cites.Cited.{Cited}
 use Rattle.shr_audit_reasons.specs.declared.cites.Cited.TheVariants.{Never, Once, Often}
 use Rattle.shr_audit_reasons.specs.Cites.{cited_in}
-use Rattle.shr_report.specs.declared.report.Report.{Report}
-use Rattle.shr_report.specs.Freshness.{is_begin_at, of_answer, tree_cited, walk_cited}
-use Rattle.shr_report.specs.Parts.{serial_of}
+use Rattle.shr_laws.specs.declared.report.Report.{Report}
+use Rattle.shr_laws.specs.Freshness.{is_begin_at, of_answer, tree_cited, walk_cited}
+use Rattle.shr_laws.specs.Parts.{serial_of}
 
 -- one of those that are noted is of another worker, or not behind this command
 abbrev pub may_show : Cited → ℕ → ℕ → Bool

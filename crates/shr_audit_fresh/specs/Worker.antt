@@ -11,11 +11,11 @@ use Rattle.shr_base.specs.declared.scripts.Command.TheVariants.{MkGroup}
 use Rattle.shr_base.specs.declared.scripts.Script.{Script}
 use Rattle.shr_base.specs.Walks.{WalkRecord}
 use Rattle.shr_model.specs.Commands.{asks_online}
-use Rattle.shr_report.specs.declared.report.Report.{Report}
-use Rattle.shr_report.specs.Causes.{IsOffline, MayHaveBegun}
-use Rattle.shr_report.specs.Freshness.{AreBelow, MayBeOffline, of_answer, pool_made, pool_seen, shown_by, shows_begin, shows_made, shows_offline, tree_cited, tree_seen}
-use Rattle.shr_report.specs.Parts.{answer_at, answers_of, command_at, decls_on, reply_at, serial_of}
-use Rattle.shr_report.specs.WellFormed.{AreNotFalling}
+use Rattle.shr_laws.specs.declared.report.Report.{Report}
+use Rattle.shr_laws.specs.Causes.{IsOffline, MayHaveBegun}
+use Rattle.shr_laws.specs.Freshness.{AreBelow, MayBeOffline, of_answer, pool_made, pool_seen, shown_by, shows_begin, shows_made, shows_offline, tree_cited, tree_seen}
+use Rattle.shr_laws.specs.Parts.{answer_at, answers_of, command_at, decls_on, reply_at, serial_of}
+use Rattle.shr_laws.specs.WellFormed.{AreNotFalling}
 use Rattle.shr_audit_fresh.specs.Firsts.{shows_in}
 use Rattle.shr_audit_fresh.specs.Floors.{walks_cite}
 

@@ -3,13 +3,13 @@
 ghost use Rattle.std.specs.Prelude.{◌≡◌, ℕ, ◌∷◌, [], ◌++◌, List, length, get_or, option_to_list, IfOk};
 ghost use Rattle.std.specs.Bool.{Decides};
 ghost use Rattle.shr_base.specs.Walks.{WalkRecord};
-ghost use Rattle.shr_report.specs.Parts.{walks_of};
+ghost use Rattle.shr_laws.specs.Parts.{walks_of};
 ghost use Rattle.shr_audit_fresh.specs.Floors.{AreFloors, FloorWith, IsHigher, Reaches};
 
 use crate::told::{walk_cited, walks_of};
 use shr_base::memory::Memory;
 use shr_base::walks::WalkRecord;
-use shr_report::report::Report;
+use shr_laws::report::Report;
 use std::alloc::Global;
 
 /// Whether a number is at least the floor, if there is one. Our own.

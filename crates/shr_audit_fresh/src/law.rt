@@ -5,9 +5,9 @@ ghost use Rattle.std.specs.Bool.{Decides};
 ghost use Rattle.shr_audit_reasons.specs.declared.cites.What.TheVariants as say;
 ghost use Rattle.shr_audit_reasons.specs.Cites.{AreCited};
 ghost use Rattle.shr_audit_formed.specs.Each.{EachItem};
-ghost use Rattle.shr_report.specs.Freshness.{IsFresh};
-ghost use Rattle.shr_report.specs.Parts.{answers_of, decls_on};
-ghost use Rattle.shr_report.specs.WellFormed.{IsTreeNumbered};
+ghost use Rattle.shr_laws.specs.Freshness.{IsFresh};
+ghost use Rattle.shr_laws.specs.Parts.{answers_of, decls_on};
+ghost use Rattle.shr_laws.specs.WellFormed.{IsTreeNumbered};
 ghost use Rattle.shr_audit_fresh.specs.Worker.{AreNumbersFresh, IsWorkerFresh};
 
 use crate::made::stays_made;
@@ -22,7 +22,7 @@ use shr_audit_reasons::registrations::count_on;
 use shr_base::memory::Memory;
 use shr_base::replies::Answered;
 use shr_base::scripts::Script;
-use shr_report::report::Report;
+use shr_laws::report::Report;
 use std::alloc::Global;
 
 // The answers of a worker, none past the last part.

@@ -5,8 +5,8 @@ ghost use Rattle.std.specs.Bool.{Decides};
 ghost use Rattle.std.specs.HashMap.{get};
 ghost use Rattle.shr_base.specs.declared.replies.Reply.TheVariants as reply;
 ghost use Rattle.shr_base.specs.declared.scripts.Command.TheVariants.{MkGroup};
-ghost use Rattle.shr_report.specs.Freshness.{asks_made, is_past_group, made_shown, shows_made};
-ghost use Rattle.shr_report.specs.Parts.{reply_at, serial_of};
+ghost use Rattle.shr_laws.specs.Freshness.{asks_made, is_past_group, made_shown, shows_made};
+ghost use Rattle.shr_laws.specs.Parts.{reply_at, serial_of};
 ghost use Rattle.shr_audit_fresh.specs.Worker.{StaysMade, makes, unmade};
 
 use crate::firsts::{first_of, no_firsts, note};
@@ -14,7 +14,7 @@ use shr_audit_replies::numbers::{answer_of, command_of, count_answers};
 use shr_base::memory::Memory;
 use shr_base::replies::Reply;
 use shr_base::scripts::{Command, Script};
-use shr_report::report::Report;
+use shr_laws::report::Report;
 use std::alloc::Global;
 use std::collections::HashMap;
 

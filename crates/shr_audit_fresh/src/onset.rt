@@ -3,13 +3,13 @@
 
 ghost use Rattle.std.specs.Prelude.{◌≡◌, length};
 ghost use Rattle.std.specs.Bool.{Decides};
-ghost use Rattle.shr_report.specs.Parts.{decls_on};
+ghost use Rattle.shr_laws.specs.Parts.{decls_on};
 ghost use Rattle.shr_audit_fresh.specs.Worker.{IsOnSeen, IsOnSeenAt};
 
 use crate::own::pool_reaches;
 use shr_audit_replies::numbers::{answer_of, count_answers, count_commands};
 use shr_base::scripts::Script;
-use shr_report::report::Report;
+use shr_laws::report::Report;
 
 // Whether that is so of the answer with this number, if the script has its command.
 fn is_on_seen_at(script: &Script, report: &Report, worker: usize, number: usize, on: usize) -> bool

@@ -3,8 +3,8 @@
 ghost use Rattle.std.specs.Prelude.{◌≡◌, ℕ, ◌<◌, length, IfOk};
 ghost use Rattle.std.specs.Bool.{Decides};
 ghost use Rattle.shr_base.specs.declared.replies.Answered.{Answered};
-ghost use Rattle.shr_report.specs.Freshness.{of_answer, pool_seen, tree_seen};
-ghost use Rattle.shr_report.specs.Parts.{serial_of};
+ghost use Rattle.shr_laws.specs.Freshness.{of_answer, pool_seen, tree_seen};
+ghost use Rattle.shr_laws.specs.Parts.{serial_of};
 ghost use Rattle.shr_audit_fresh.specs.Floors.{Reaches};
 ghost use Rattle.shr_audit_fresh.specs.Worker.{IsOwnBelow, IsShownBelow};
 
@@ -13,7 +13,7 @@ use crate::told::{cited_by, made_by, pool_found, pool_told, tree_seen};
 use shr_audit_replies::numbers::{answer_of, count_answers};
 use shr_base::memory::Memory;
 use shr_base::replies::Answered;
-use shr_report::report::Report;
+use shr_laws::report::Report;
 use std::alloc::Global;
 
 /// Whether what an answer says of the journal of registrations is at least the floor. Our own.

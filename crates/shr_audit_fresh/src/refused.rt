@@ -5,8 +5,8 @@ ghost use Rattle.std.specs.Bool.{Decides};
 ghost use Rattle.std.specs.Option.{IsSomeAnd};
 ghost use Rattle.shr_base.specs.Walks.{WalkRecord};
 ghost use Rattle.shr_model.specs.Commands.{asks_online};
-ghost use Rattle.shr_report.specs.Freshness.{MayBeOffline};
-ghost use Rattle.shr_report.specs.Parts.{reply_at, serial_of, walks_of};
+ghost use Rattle.shr_laws.specs.Freshness.{MayBeOffline};
+ghost use Rattle.shr_laws.specs.Parts.{reply_at, serial_of, walks_of};
 ghost use Rattle.shr_audit_fresh.specs.Firsts.{AreLeastOfGroups, HasNoFirsts};
 ghost use Rattle.shr_audit_fresh.specs.Worker.{IsWorkerRefused, IsRefusedAt, ShownByWalks, ShownOffline, is_first_before};
 
@@ -18,7 +18,7 @@ use shr_base::memory::Memory;
 use shr_base::replies::Reply;
 use shr_base::scripts::{Command, Script};
 use shr_base::walks::WalkRecord;
-use shr_report::report::Report;
+use shr_laws::report::Report;
 use std::alloc::Global;
 use std::collections::HashMap;
 

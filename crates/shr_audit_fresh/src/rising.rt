@@ -3,8 +3,8 @@
 ghost use Rattle.std.specs.Prelude.{◌≡◌, ◌++◌, flat_map, option_map, option_to_list};
 ghost use Rattle.std.specs.Bool.{Decides};
 ghost use Rattle.shr_base.specs.declared.replies.Answered.{Answered};
-ghost use Rattle.shr_report.specs.Freshness.{pool_seen, tree_seen};
-ghost use Rattle.shr_report.specs.WellFormed.{AreNotFalling};
+ghost use Rattle.shr_laws.specs.Freshness.{pool_seen, tree_seen};
+ghost use Rattle.shr_laws.specs.WellFormed.{AreNotFalling};
 ghost use Rattle.shr_audit_fresh.specs.Rising.{After};
 
 use crate::told::{pool_found, pool_told, tree_told};

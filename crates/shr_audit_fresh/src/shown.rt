@@ -3,11 +3,11 @@
 ghost use Rattle.std.specs.Prelude.{◌≡◌, ℕ, ◌||◌, ◌∷◌, [], option_to_list};
 ghost use Rattle.std.specs.List.{list_any};
 ghost use Rattle.shr_model.specs.TreeJournal.{is_begin, is_done};
-ghost use Rattle.shr_report.specs.Freshness.{is_begin_at};
+ghost use Rattle.shr_laws.specs.Freshness.{is_begin_at};
 ghost use Rattle.shr_audit_fresh.specs.Firsts.{is_group, shows_in};
 
 use shr_base::journals::TreeEntry;
-use shr_report::report::Report;
+use shr_laws::report::Report;
 
 // The group of which an entry is the Begin.
 fn begun(entry: &TreeEntry) -> Option<u16>

@@ -6,9 +6,9 @@ ghost use Rattle.std.specs.List.{list_any};
 ghost use Rattle.shr_audit_reasons.specs.declared.cites.What.TheVariants as say;
 ghost use Rattle.shr_audit_reasons.specs.Cites.{AreCited, cited_in};
 ghost use Rattle.shr_audit_formed.specs.Each.{EachItem};
-ghost use Rattle.shr_report.specs.Freshness.{is_begin_at};
-ghost use Rattle.shr_report.specs.Parts.{walks_of};
-ghost use Rattle.shr_report.specs.WellFormed.{IsTreeNumbered};
+ghost use Rattle.shr_laws.specs.Freshness.{is_begin_at};
+ghost use Rattle.shr_laws.specs.Parts.{walks_of};
+ghost use Rattle.shr_laws.specs.WellFormed.{IsTreeNumbered};
 ghost use Rattle.shr_audit_fresh.specs.Started.{AreAnswersStarted, IsEntryStarted, IsWalkStarted, may_show};
 ghost use Rattle.shr_audit_fresh.specs.Worker.{IsBeginStarted};
 
@@ -18,7 +18,7 @@ use shr_audit_reasons::cites::{Cited, cited_at};
 use shr_audit_replies::numbers::count_answers;
 use shr_base::scripts::Script;
 use shr_base::walks::WalkRecord;
-use shr_report::report::Report;
+use shr_laws::report::Report;
 
 // Whether an `offline` of those that are noted is of another worker, or not behind this command.
 fn may_show(begun: Cited, worker: usize, command: usize) -> bool

@@ -3,13 +3,13 @@
 ghost use Rattle.std.specs.Prelude.{◌≡◌, option_copied, option_map, option_to_list};
 ghost use Rattle.shr_base.specs.declared.replies.Answered.{Answered};
 ghost use Rattle.shr_base.specs.declared.replies.Found.{Found};
-ghost use Rattle.shr_report.specs.Freshness.{of_answer, pool_made, pool_told, tree_cited, tree_seen, tree_told, walk_cited};
-ghost use Rattle.shr_report.specs.Parts.{serial_of, walks_of};
+ghost use Rattle.shr_laws.specs.Freshness.{of_answer, pool_made, pool_told, tree_cited, tree_seen, tree_told, walk_cited};
+ghost use Rattle.shr_laws.specs.Parts.{serial_of, walks_of};
 
 use shr_audit_replies::numbers::answer_of;
 use shr_base::replies::{Answered, Reply};
 use shr_base::walks::{WalkAnswer, WalkRecord};
-use shr_report::report::Report;
+use shr_laws::report::Report;
 
 /// How many entries of the journal of registrations its found cache tells of. Our own.
 pub(crate) fn pool_found(answer: &Answered) -> Option<u32>

@@ -5,7 +5,7 @@ use Rattle.std.proofs.lemmas.Bool.{eqb-true}
 use Rattle.shr_base.specs.declared.places.Serial.{Serial}
 use Rattle.shr_base.specs.declared.scripts.Command.{Command}
 use Rattle.shr_model.specs.Commands.{is_serial}
-use Rattle.shr_report.specs.WellFormed.{IsWellFormed}
+use Rattle.shr_laws.specs.WellFormed.{IsWellFormed}
 use Rattle.shr_audit_formed.proofs.WellParts.{parts_of}
 use Rattle.shr_audit_case.specs.Each.{AnswersInParts}
 use Rattle.shr_audit_case.proofs.Eachs.{each_answer_of}

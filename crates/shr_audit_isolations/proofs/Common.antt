@@ -19,9 +19,9 @@ pub use Rattle.shr_audit_formed.proofs.Eachs.{all_at, below_of, clash, each_all,
 pub use Rattle.shr_audit_formed.specs.Each.{EachItem, IsWorkerCommand}
 pub use Rattle.shr_model.specs.Isolations.{IsLawfulIsolation, Met, ScanSeen, first_isolation, isolation_walk, met_of, met_one, mets_of}
 pub use Rattle.shr_model.specs.Places.{is_place}
-pub use Rattle.shr_report.specs.Isolated.{AreIsolationsLawful, IsOfIsolation, isolations_by, isolations_told, scan_seen, scans_seen}
-pub use Rattle.shr_report.specs.Parts.{EachAnswer, EachEntry, commands_of, isolation_at, isolations_in, journal_of, journals_of, serial_of}
-pub use Rattle.shr_report.specs.declared.report.Report.{Report}
+pub use Rattle.shr_laws.specs.Isolated.{AreIsolationsLawful, IsOfIsolation, isolations_by, isolations_told, scan_seen, scans_seen}
+pub use Rattle.shr_laws.specs.Parts.{EachAnswer, EachEntry, commands_of, isolation_at, isolations_in, journal_of, journals_of, serial_of}
+pub use Rattle.shr_laws.specs.declared.report.Report.{Report}
 pub use Rattle.shr_audit_isolations.specs.Commands.{TellsIsolations, PartTellsIsolations, IsolationsByCommand, isolations_with}
 pub use Rattle.shr_audit_isolations.specs.Gathered.{AreGathered, GainsScans, IsGatheringBegun, IsOfTheirs, IsOfTold, IsolationTold, at_place, begun, gathered_of, journals_to, new_at, gathered_row, seen_of, told_at, told_of, with_scans}
 pub use Rattle.shr_audit_isolations.specs.Lawful.{IsAskedAlike, IsBounded, isolation_freed, met_by}

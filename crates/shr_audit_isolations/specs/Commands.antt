@@ -6,8 +6,8 @@ use Rattle.shr_base.specs.declared.scripts.Command.{Command}
 use Rattle.shr_base.specs.declared.scripts.Script.{Script}
 use Rattle.shr_base.specs.declared.walks.Isolation.{Isolation}
 use Rattle.shr_audit_formed.specs.Each.{Adjacent}
-use Rattle.shr_report.specs.Isolated.{isolations_told}
-use Rattle.shr_report.specs.Parts.{commands_of, serial_of}
+use Rattle.shr_laws.specs.Isolated.{isolations_told}
+use Rattle.shr_laws.specs.Parts.{commands_of, serial_of}
 
 -- as the isolations of a worker stand in a well formed report
 abbrev pub IsolationsByCommand : List Isolation → Type 0

@@ -10,9 +10,9 @@ use Rattle.shr_base.specs.declared.places.Place.{Place}
 use Rattle.shr_base.specs.declared.walks.Isolation.{Isolation}
 use Rattle.shr_model.specs.Places.{is_place}
 use Rattle.shr_model.specs.Isolations.{ScanSeen, first_isolation, isolation_walk}
-use Rattle.shr_report.specs.declared.report.Report.{Report}
-use Rattle.shr_report.specs.Isolated.{scans_seen}
-use Rattle.shr_report.specs.Parts.{isolation_at, journal_of, journals_of}
+use Rattle.shr_laws.specs.declared.report.Report.{Report}
+use Rattle.shr_laws.specs.Isolated.{scans_seen}
+use Rattle.shr_laws.specs.Parts.{isolation_at, journal_of, journals_of}
 use Rattle.shr_audit_formed.specs.Each.{EachItem}
 use Rattle.shr_audit_case.specs.Places.{IsFirst, end_printed}
 use Rattle.shr_audit_isolations.specs.declared.gathered.Gathered.{Gathered}

@@ -10,9 +10,9 @@ use Rattle.shr_base.specs.declared.walks.Isolation.{Isolation}
 use Rattle.shr_model.specs.Commands.{decl_named}
 use Rattle.shr_model.specs.Items.{is_closed}
 use Rattle.shr_model.specs.Isolations.{IsLawfulIsolation, isolation_walk}
-use Rattle.shr_report.specs.declared.report.Report.{Report}
-use Rattle.shr_report.specs.Isolated.{EachIsolation, IsEndCaused, IsOfIsolation, cache_named, scans_seen}
-use Rattle.shr_report.specs.Parts.{EachEntry, journals_of}
+use Rattle.shr_laws.specs.declared.report.Report.{Report}
+use Rattle.shr_laws.specs.Isolated.{EachIsolation, IsEndCaused, IsOfIsolation, cache_named, scans_seen}
+use Rattle.shr_laws.specs.Parts.{EachEntry, journals_of}
 use Rattle.shr_audit_formed.specs.Each.{EachItem}
 use Rattle.shr_audit_isolations.specs.declared.gathered.Gathered.{Gathered}
 use Rattle.shr_audit_isolations.specs.Gathered.{IsolationTold, told_of}

@@ -6,16 +6,16 @@ ghost use Rattle.shr_base.specs.declared.places.Serial.{Serial};
 ghost use Rattle.shr_base.specs.declared.scripts.Command.{Command};
 ghost use Rattle.shr_base.specs.declared.walks.Isolation.{Isolation};
 ghost use Rattle.shr_audit_formed.specs.Each.{EachItem};
-ghost use Rattle.shr_report.specs.Isolated.{isolations_by, isolations_told};
-ghost use Rattle.shr_report.specs.Parts.{commands_of, EachAnswer};
-ghost use Rattle.shr_report.specs.WellFormed.{IsWellFormed};
+ghost use Rattle.shr_laws.specs.Isolated.{isolations_by, isolations_told};
+ghost use Rattle.shr_laws.specs.Parts.{commands_of, EachAnswer};
+ghost use Rattle.shr_laws.specs.WellFormed.{IsWellFormed};
 ghost use Rattle.shr_audit_isolations.specs.Commands.{PartTellsIsolations, IsolationsByCommand};
 
 use shr_base::ends::WorkerPart;
 use shr_base::replies::{Answered, Reply};
 use shr_base::scripts::{Command, Script};
 use shr_base::walks::Isolation;
-use shr_report::report::Report;
+use shr_laws::report::Report;
 
 // The index of the first isolation that isn't of an earlier command.
 fn first_of(isolations: &[Isolation], command: usize) -> usize

@@ -4,8 +4,8 @@ ghost use Rattle.std.specs.Prelude.{◌≡◌, ℕ, ◌<◌, ◌∷◌, [], leng
 ghost use Rattle.std.specs.Bool.{Decides};
 ghost use Rattle.std.specs.Option.{IsSomeAnd};
 ghost use Rattle.shr_audit_formed.specs.Each.{EachItem};
-ghost use Rattle.shr_report.specs.Isolated.{IsOfIsolation};
-ghost use Rattle.shr_report.specs.Parts.{EachEntry};
+ghost use Rattle.shr_laws.specs.Isolated.{IsOfIsolation};
+ghost use Rattle.shr_laws.specs.Parts.{EachEntry};
 ghost use Rattle.shr_audit_case.specs.Places.{AreInOrder};
 ghost use Rattle.shr_audit_isolations.specs.Gathered.{AreGathered, GainsScans, IsGatheringBegun, IsOfTheirs, IsOfTold, RowGains, TableGains, at_place, begun, journals_to, new_at, pushed, seen_of, told_at, told_of};
 
@@ -16,7 +16,7 @@ use shr_base::memory::Memory;
 use shr_base::objects::Policy;
 use shr_base::places::Place;
 use shr_base::walks::Isolation;
-use shr_report::report::Report;
+use shr_laws::report::Report;
 use std::alloc::Global;
 
 /// What stands as walk in the Scan entries of a worker's first isolation: walks have lower numbers.

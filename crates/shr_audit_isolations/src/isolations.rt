@@ -2,8 +2,8 @@
 
 ghost use Rattle.std.specs.Prelude.{IfOk};
 ghost use Rattle.std.specs.Bool.{Decides};
-ghost use Rattle.shr_report.specs.Isolated.{AreIsolationsLawful};
-ghost use Rattle.shr_report.specs.WellFormed.{IsWellFormed};
+ghost use Rattle.shr_laws.specs.Isolated.{AreIsolationsLawful};
+ghost use Rattle.shr_laws.specs.WellFormed.{IsWellFormed};
 ghost use Rattle.shr_audit_reasons.specs.Counted.{IsCountOf};
 ghost use Rattle.shr_audit_isolations.specs.Right.{AreGatheredRight};
 
@@ -13,7 +13,7 @@ use crate::right::are_rows_right;
 use shr_audit_reasons::counted::Counted;
 use shr_base::memory::Memory;
 use shr_base::scripts::Script;
-use shr_report::report::Report;
+use shr_laws::report::Report;
 use std::alloc::Global;
 
 // Whether all but the field on commands holds.

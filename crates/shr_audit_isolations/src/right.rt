@@ -4,7 +4,7 @@ ghost use Rattle.std.specs.Prelude.{◌≡◌, ◌<◌, length, option_copied};
 ghost use Rattle.std.specs.Bool.{Decides};
 ghost use Rattle.shr_audit_formed.specs.Each.{EachItem};
 ghost use Rattle.shr_model.specs.Commands.{decl_named};
-ghost use Rattle.shr_report.specs.Isolated.{cache_named};
+ghost use Rattle.shr_laws.specs.Isolated.{cache_named};
 ghost use Rattle.shr_audit_case.specs.Places.{AreInOrder};
 ghost use Rattle.shr_audit_reasons.specs.Counted.{IsCountOf};
 ghost use Rattle.shr_audit_isolations.specs.Gathered.{told_of};
@@ -19,7 +19,7 @@ use shr_base::places::Serial;
 use shr_base::replies::IsolateEnd;
 use shr_base::scripts::{CacheDecl, Command, Script};
 use shr_base::walks::Isolation;
-use shr_report::report::Report;
+use shr_laws::report::Report;
 
 // The declaration that a command names.
 fn decl_named(command: &Command) -> Option<u8>

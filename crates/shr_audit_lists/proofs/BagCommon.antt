@@ -8,5 +8,5 @@ pub use Rattle.shr_base.specs.declared.places.Serial.{Serial}
 pub use Rattle.shr_model.proofs.Lists.{flat_all}
 pub use Rattle.shr_model.specs.Bag.{AreDistinct, IsBag, added_by, added_by_all, added_in, freed_at, freed_in, listed_in, serials_of}
 pub use Rattle.shr_model.specs.Families.{items_of}
-pub use Rattle.shr_report.specs.Parts.{journals_of, parents_of, places_of}
+pub use Rattle.shr_laws.specs.Parts.{journals_of, parents_of, places_of}
 pub use Rattle.shr_audit_lists.specs.Gone.{IsGone, freed_serial, left_serial}

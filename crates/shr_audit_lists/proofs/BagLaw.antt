@@ -8,8 +8,8 @@ use Rattle.shr_base.specs.declared.scripts.Script.{Script}
 use Rattle.shr_model.specs.Items.{first_moved, later_moved, step, freed_by, freed_from}
 use Rattle.shr_audit_case.specs.Journals.{freed_tags}
 use Rattle.shr_audit_case.specs.Tags.{tag_of, freed_tag}
-use Rattle.shr_report.specs.declared.report.Report.{Report}
-use Rattle.shr_report.specs.Lawful.{IsBagLawful}
+use Rattle.shr_laws.specs.declared.report.Report.{Report}
+use Rattle.shr_laws.specs.Lawful.{IsBagLawful}
 use Rattle.shr_audit_lists.specs.declared.gone.Gone.{Gone}
 
 clash : (b : Bool) → b ≡ true → b ≡ false → ⊥

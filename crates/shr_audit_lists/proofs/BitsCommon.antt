@@ -8,8 +8,8 @@ pub use Rattle.shr_base.specs.declared.ends.PlaceEnd.{PlaceEnd}
 pub use Rattle.shr_base.specs.declared.journals.PoolEntry.{PoolEntry}
 pub use Rattle.shr_base.specs.declared.places.Place.{Place}
 pub use Rattle.shr_model.proofs.Lists.{zero_more}
-pub use Rattle.shr_report.specs.BitsLawful.{AreBitsLawful, has_bit, is_set_at, shows_bit}
-pub use Rattle.shr_report.specs.declared.report.Report.{Report}
+pub use Rattle.shr_laws.specs.BitsLawful.{AreBitsLawful, has_bit, is_set_at, shows_bit}
+pub use Rattle.shr_laws.specs.declared.report.Report.{Report}
 pub use Rattle.shr_audit_lists.specs.Set.{ArePhases, IsSetIfLive}
 pub use Rattle.shr_audit_lists.specs.Words.{AreWords, Words, map_key, word_at, word_key}
 pub use mathlib.Core.Logic.{dite}

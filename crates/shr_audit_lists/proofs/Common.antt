@@ -21,12 +21,13 @@ pub use Rattle.shr_audit_case.specs.Places.{IsFirst}
 pub use Rattle.shr_model.proofs.GroupsLaws.{child_again, child_higher, child_takes, path_of-below, path_of-root}
 pub use Rattle.shr_model.proofs.Members.{Contains_from_Has, Has, Has_from_Contains}
 pub use Rattle.shr_model.specs.Families.{AreChildrenMovedIn, IsAllowed, IsBornAt, IsPaired, IsPairedAt, MayStand, child_of, items_of, lists_moved_at, moved_in}
-pub use Rattle.shr_model.specs.Groups.{IsAtOrAbove, IsTree, is_child, parent_of, path_of}
+pub use Rattle.shr_model.specs.Groups.{IsAtOrAbove, is_child, parent_of, path_of}
+pub use Rattle.shr_model.specs.Trees.{IsTree}
 pub use Rattle.shr_model.specs.Items.{is_closed, is_closing}
 pub use Rattle.shr_model.specs.Places.{at_group}
-pub use Rattle.shr_report.specs.Journals.{AreJournalsLawful}
-pub use Rattle.shr_report.specs.Parts.{IsThere, journal_of, journals_of, parents_of}
-pub use Rattle.shr_report.specs.declared.report.Report.{Report}
+pub use Rattle.shr_laws.specs.Journals.{AreJournalsLawful}
+pub use Rattle.shr_laws.specs.Parts.{IsThere, journal_of, journals_of, parents_of}
+pub use Rattle.shr_laws.specs.declared.report.Report.{Report}
 pub use Rattle.shr_audit_lists.specs.Begun.{AreBegun, AreBegunIfClosed, HaveGroups, HasBegunAbove, IsBegunIfClosed}
 pub use Rattle.shr_audit_lists.specs.Fields.{AreDoneClosed, ArePrintedOnce, AreItemsLeft, AreOutcomesSo, ArePlacesOnce, ArePlacesThere, IsClosedAt, IsItemsLeft, IsOutcomeSo}
 pub use Rattle.shr_audit_lists.specs.Paired.{AreChildrenPaired, IsOwnPaired, IsPairedAround, moves}

@@ -3,8 +3,8 @@ use Rattle.shr_audit_lists.proofs.Common.{false, ◌≡◌, ℕ, zero, suc, ◌<
 use Rattle.shr_base.specs.declared.journals.DropKind.TheVariants as kind
 use Rattle.shr_model.specs.Items.{AreOutcomes}
 use Rattle.shr_model.specs.Families.{lists_moved}
-use Rattle.shr_report.proofs.SecondReport as second
-use Rattle.shr_report.proofs.NotLawful.{with_list}
+use Rattle.shr_laws.proofs.SecondReport as second
+use Rattle.shr_laws.proofs.NotLawful.{with_list}
 use Rattle.shr_model.specs.Groups.{path_within}
 
 -- a report with one list, which is closed

@@ -8,7 +8,7 @@ use Rattle.shr_model.specs.Families.{items_of, lists_moved_at}
 use Rattle.shr_model.specs.Items.{items_from}
 use Rattle.shr_model.specs.Pool.{phase_of}
 use Rattle.shr_audit_case.specs.Tags.{tag_of}
-use Rattle.shr_report.specs.Parts.{journal_of, journals_of, parents_of}
+use Rattle.shr_laws.specs.Parts.{journal_of, journals_of, parents_of}
 use Rattle.shr_audit_case.proofs.Eachs.{decides_iff}
 use Rattle.shr_audit_case.proofs.Firsts.{found_or_none}
 

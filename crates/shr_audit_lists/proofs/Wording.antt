@@ -4,7 +4,7 @@ use Rattle.std.specs.HashMap.{get}
 use Rattle.std.specs.List.{AllByRecursion}
 use Rattle.shr_model.specs.Bits.{is_set}
 use Rattle.shr_model.specs.Places.{bit_of, unit_of}
-use Rattle.shr_report.specs.Numbers.{HasNumbers, IsMapNumbered}
+use Rattle.shr_laws.specs.Numbers.{HasNumbers, IsMapNumbered}
 use Rattle.shr_model.proofs.Booleans.{same_test, none_unless}
 
 clash : (b : Bool) → b ≡ true → b ≡ false → ⊥

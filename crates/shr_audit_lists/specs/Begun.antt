@@ -7,8 +7,8 @@ use Rattle.shr_base.specs.declared.journals.TreeEntry.TheVariants.{Begin}
 use Rattle.shr_base.specs.declared.ends.PlaceEnd.{PlaceEnd}
 use Rattle.shr_model.specs.Groups.{IsAtOrAbove}
 use Rattle.shr_model.specs.Items.{is_closed}
-use Rattle.shr_report.specs.declared.report.Report.{Report}
-use Rattle.shr_report.specs.Parts.{journals_of}
+use Rattle.shr_laws.specs.declared.report.Report.{Report}
+use Rattle.shr_laws.specs.Parts.{journals_of}
 
 -- a group at or above this one began to go offline
 abbrev pub HasBegunAbove : List ℕ → List TreeEntry → ℕ → Type 0

@@ -6,8 +6,8 @@ use Rattle.shr_base.specs.declared.ends.PlaceEnd.{PlaceEnd}
 use Rattle.shr_base.specs.declared.scripts.Script.{Script}
 use Rattle.shr_model.specs.Items.{AreOutcomes, is_closed}
 use Rattle.shr_model.specs.Families.{items_of, lists_moved_at}
-use Rattle.shr_report.specs.declared.report.Report.{Report}
-use Rattle.shr_report.specs.Parts.{IsThere, journals_of}
+use Rattle.shr_laws.specs.declared.report.Report.{Report}
+use Rattle.shr_laws.specs.Parts.{IsThere, journals_of}
 use Rattle.shr_audit_case.specs.Places.{IsFirst}
 
 -- each printed place is one of the script

@@ -4,8 +4,8 @@ use Rattle.shr_base.specs.declared.places.Serial.{Serial}
 use Rattle.shr_model.specs.Bag.{freed_in, listed_in}
 use Rattle.shr_audit_case.specs.declared.tags.Tag.{Tag}
 use Rattle.shr_audit_case.specs.declared.tags.FreedTag.{FreedTag}
-use Rattle.shr_report.specs.declared.report.Report.{Report}
-use Rattle.shr_report.specs.Parts.{journals_of, places_of}
+use Rattle.shr_laws.specs.declared.report.Report.{Report}
+use Rattle.shr_laws.specs.Parts.{journals_of, places_of}
 use Rattle.shr_audit_lists.specs.declared.gone.Gone.{Gone}
 
 -- the serial of an object that was freed

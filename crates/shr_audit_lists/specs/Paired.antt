@@ -6,8 +6,8 @@ use Rattle.shr_base.specs.declared.journals.Entry.TheVariants.{MovedIn}
 use Rattle.shr_model.specs.Groups.{is_child}
 use Rattle.shr_model.specs.Places.{at_group}
 use Rattle.shr_model.specs.Families.{IsPairedAt}
-use Rattle.shr_report.specs.declared.report.Report.{Report}
-use Rattle.shr_report.specs.Parts.{journals_of}
+use Rattle.shr_laws.specs.declared.report.Report.{Report}
+use Rattle.shr_laws.specs.Parts.{journals_of}
 
 -- an entry moved the list of a child in
 abbrev pub moves : ℕ → Entry → Bool

@@ -4,9 +4,9 @@ use Rattle.shr_base.specs.declared.journals.PoolEntry.{PoolEntry}
 use Rattle.shr_base.specs.declared.places.Place.{Place}
 use Rattle.shr_model.specs.Families.{items_of}
 use Rattle.shr_model.specs.Pool.{is_live, phase_of}
-use Rattle.shr_report.specs.declared.report.Report.{Report}
-use Rattle.shr_report.specs.BitsLawful.{is_set_at}
-use Rattle.shr_report.specs.Parts.{journals_of}
+use Rattle.shr_laws.specs.declared.report.Report.{Report}
+use Rattle.shr_laws.specs.BitsLawful.{is_set_at}
+use Rattle.shr_laws.specs.Parts.{journals_of}
 
 -- a place below the root that has objects at the end, and whose id is live, has its bit set
 abbrev pub IsSetIfLive : List ℕ → Report → Place → Type 0

@@ -5,8 +5,8 @@ use Rattle.shr_base.specs.declared.places.Place.{Place}
 use Rattle.shr_base.specs.declared.journals.Entry.{Entry}
 use Rattle.shr_model.specs.Groups.{parent_of}
 use Rattle.shr_model.specs.Families.{MayStand, moved_in}
-use Rattle.shr_report.specs.declared.report.Report.{Report}
-use Rattle.shr_report.specs.Parts.{journals_of}
+use Rattle.shr_laws.specs.declared.report.Report.{Report}
+use Rattle.shr_laws.specs.Parts.{journals_of}
 
 -- of each of the first groups it is told whether its list was moved in
 abbrev pub AreMovesTold : List Entry → List Bool → Type 0

@@ -2,7 +2,7 @@
 
 ghost use Rattle.std.specs.Prelude.{◌≡◌, IfOk};
 ghost use Rattle.std.specs.Bool.{Decides};
-ghost use Rattle.shr_report.specs.Lawful.{IsBagLawful};
+ghost use Rattle.shr_laws.specs.Lawful.{IsBagLawful};
 ghost use Rattle.shr_audit_case.specs.Lists.{IsCaseOf};
 
 use crate::bags::is_bag_of;
@@ -11,7 +11,7 @@ use crate::noted::added_serials;
 use shr_audit_case::case::Case;
 use shr_base::memory::Memory;
 use shr_base::scripts::Script;
-use shr_report::report::Report;
+use shr_laws::report::Report;
 use std::alloc::Global;
 
 // Whether the totals of a report are these.

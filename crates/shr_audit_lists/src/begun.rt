@@ -4,7 +4,7 @@ ghost use Rattle.std.specs.Prelude.{◌≡◌, ℕ, ◌<◌, List, Some, length,
 ghost use Rattle.std.specs.Bool.{Decides};
 ghost use Rattle.shr_base.specs.declared.ends.PlaceEnd.{PlaceEnd};
 ghost use Rattle.shr_base.specs.declared.journals.TreeEntry.TheVariants.{Begin};
-ghost use Rattle.shr_model.specs.Groups.{IsTree};
+ghost use Rattle.shr_model.specs.Trees.{IsTree};
 ghost use Rattle.shr_audit_case.specs.Each.{EachFirst};
 ghost use Rattle.shr_audit_case.specs.Places.{AreInOrder, IsFirst};
 ghost use Rattle.shr_audit_lists.specs.Begun.{AreBegun, AreBegunIfClosed, HaveGroups, HasBegunAbove, IsBegunIfClosed};
@@ -14,7 +14,7 @@ use shr_audit_case::places::{is_first, journal_at};
 use shr_base::journals::TreeEntry;
 use shr_base::memory::Memory;
 use shr_base::places::Place;
-use shr_report::report::Report;
+use shr_laws::report::Report;
 use std::alloc::Global;
 
 // Whether a group began to go offline.

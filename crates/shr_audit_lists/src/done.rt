@@ -4,7 +4,7 @@ ghost use Rattle.std.specs.Prelude.{◌≡◌, ℕ, ◌<◌, ◌≤◌, length, 
 ghost use Rattle.std.specs.Bool.{Decides};
 ghost use Rattle.shr_base.specs.declared.journals.TreeEntry.TheVariants.{Done};
 ghost use Rattle.shr_model.specs.Items.{is_closed, is_closing};
-ghost use Rattle.shr_report.specs.Parts.{parents_of};
+ghost use Rattle.shr_laws.specs.Parts.{parents_of};
 ghost use Rattle.shr_audit_case.specs.Places.{AreInOrder};
 ghost use Rattle.shr_audit_lists.specs.Fields.{AreDoneClosed, IsClosedAt};
 
@@ -12,7 +12,7 @@ use shr_audit_case::places::journal_at;
 use shr_base::journals::{Entry, TreeEntry};
 use shr_base::places::Place;
 use shr_base::scripts::Script;
-use shr_report::report::Report;
+use shr_laws::report::Report;
 
 /// Whether an entry closes its list. Our own.
 pub(crate) fn is_closing(entry: &Entry) -> bool

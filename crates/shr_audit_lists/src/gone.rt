@@ -3,7 +3,7 @@
 ghost use Rattle.std.specs.Prelude.{◌≡◌, ◌++◌, length, map, IfOk, OnOk};
 ghost use Rattle.shr_model.specs.Bag.{freed_at, freed_in, listed_in, serials_of};
 ghost use Rattle.shr_model.specs.Families.{items_of};
-ghost use Rattle.shr_report.specs.Parts.{journals_of, places_of};
+ghost use Rattle.shr_laws.specs.Parts.{journals_of, places_of};
 ghost use Rattle.shr_audit_case.specs.Lists.{IsReplayOf};
 ghost use Rattle.shr_audit_lists.specs.Gone.{IsGone, freed_serial, left_serial};
 
@@ -11,7 +11,7 @@ use shr_audit_case::case::Case;
 use shr_audit_case::tags::{FreedTag, Tag};
 use shr_base::memory::Memory;
 use shr_base::places::{Place, Serial};
-use shr_report::report::Report;
+use shr_laws::report::Report;
 use std::alloc::Global;
 
 /// The serials of the objects that were freed and then of those that are left, and how many of the

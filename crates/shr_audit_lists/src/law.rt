@@ -2,9 +2,9 @@
 
 ghost use Rattle.std.specs.Prelude.{◌≤◌, length, IfOk};
 ghost use Rattle.std.specs.Bool.{Decides};
-ghost use Rattle.shr_model.specs.Groups.{IsTree};
-ghost use Rattle.shr_report.specs.Journals.{AreJournalsLawful};
-ghost use Rattle.shr_report.specs.Parts.{parents_of};
+ghost use Rattle.shr_model.specs.Trees.{IsTree};
+ghost use Rattle.shr_laws.specs.Journals.{AreJournalsLawful};
+ghost use Rattle.shr_laws.specs.Parts.{parents_of};
 ghost use Rattle.shr_audit_case.specs.Lists.{IsCaseOf};
 
 use crate::begun::are_closed_begun;
@@ -16,7 +16,7 @@ use crate::standing::are_entries_standing;
 use shr_audit_case::case::Case;
 use shr_base::memory::Memory;
 use shr_base::scripts::Script;
-use shr_report::report::Report;
+use shr_laws::report::Report;
 use std::alloc::Global;
 
 /// Whether the journals of a report are lawful for a script: places of the script, each printed once,

@@ -7,7 +7,7 @@ ghost use Rattle.shr_audit_case.specs.Lists.{IsReplayOf};
 ghost use Rattle.shr_audit_lists.specs.Fields.{AreItemsLeft, ArePlacesOnce, IsItemsLeft};
 
 use shr_audit_case::case::Case;
-use shr_report::report::Report;
+use shr_laws::report::Report;
 
 // Whether the objects of a list are those that its journal leaves, where no place is printed twice.
 fn is_list_left(report: &Report, case: &Case, k: usize) -> bool

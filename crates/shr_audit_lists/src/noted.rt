@@ -2,14 +2,14 @@
 
 ghost use Rattle.std.specs.Prelude.{◌≡◌, ◌++◌, IfOk, OnOk};
 ghost use Rattle.shr_model.specs.Bag.{added_by, added_by_all, added_in};
-ghost use Rattle.shr_report.specs.Parts.{journals_of, places_of};
+ghost use Rattle.shr_laws.specs.Parts.{journals_of, places_of};
 ghost use Rattle.shr_audit_case.specs.Places.{AreInOrder};
 
 use shr_audit_case::places::journal_at;
 use shr_base::journals::Entry;
 use shr_base::memory::Memory;
 use shr_base::places::Serial;
-use shr_report::report::Report;
+use shr_laws::report::Report;
 use std::alloc::Global;
 
 // Notes the serial that an entry added, if it added one.

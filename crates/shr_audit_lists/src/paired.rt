@@ -7,7 +7,7 @@ ghost use Rattle.shr_base.specs.declared.ends.PlaceEnd.{PlaceEnd};
 ghost use Rattle.shr_model.specs.Families.{IsPaired, IsPairedAt, moved_in};
 ghost use Rattle.shr_model.specs.Groups.{is_child};
 ghost use Rattle.shr_model.specs.Places.{at_group};
-ghost use Rattle.shr_report.specs.Parts.{journals_of};
+ghost use Rattle.shr_laws.specs.Parts.{journals_of};
 ghost use Rattle.shr_audit_case.specs.Each.{EachFirst};
 ghost use Rattle.shr_audit_case.specs.Places.{AreInOrder, IsFirst};
 ghost use Rattle.shr_audit_lists.specs.Paired.{AreChildrenPaired, IsOwnPaired, IsPairedAround, moves};
@@ -16,7 +16,7 @@ use crate::done::is_closed;
 use shr_audit_case::places::{is_first, journal_at};
 use shr_base::journals::Entry;
 use shr_base::places::Place;
-use shr_report::report::Report;
+use shr_laws::report::Report;
 
 // Whether an entry moved a child's list in.
 fn moves(child: u16, entry: &Entry) -> bool

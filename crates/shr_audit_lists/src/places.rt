@@ -3,7 +3,7 @@
 ghost use Rattle.std.specs.Prelude.{◌≡◌, ℕ, ◌<◌, Some, length, slice_get};
 ghost use Rattle.std.specs.Bool.{Decides};
 ghost use Rattle.shr_base.specs.declared.ends.PlaceEnd.{PlaceEnd};
-ghost use Rattle.shr_report.specs.Parts.{IsThere};
+ghost use Rattle.shr_laws.specs.Parts.{IsThere};
 ghost use Rattle.shr_audit_case.specs.Each.{EachFirst};
 ghost use Rattle.shr_audit_case.specs.Lists.{IsReplayOf};
 ghost use Rattle.shr_audit_case.specs.Places.{AreInOrder, IsFirst};
@@ -14,7 +14,7 @@ use shr_audit_case::places::is_first;
 use shr_base::ends::PlaceEnd;
 use shr_base::places::Place;
 use shr_base::scripts::Script;
-use shr_report::report::Report;
+use shr_laws::report::Report;
 
 // Whether a place is one of the tables and the tree of a script.
 fn is_there(script: &Script, place: Place) -> bool

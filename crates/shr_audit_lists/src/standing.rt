@@ -6,7 +6,8 @@ ghost use Rattle.shr_base.specs.declared.ends.PlaceEnd.{PlaceEnd};
 ghost use Rattle.shr_base.specs.declared.journals.Entry.{Entry};
 ghost use Rattle.shr_base.specs.declared.places.Place.{Place};
 ghost use Rattle.shr_model.specs.Families.{AreChildrenMovedIn, IsAllowed, IsBornAt, MayStand, child_of, moved_in};
-ghost use Rattle.shr_model.specs.Groups.{IsTree, is_child};
+ghost use Rattle.shr_model.specs.Trees.{IsTree};
+ghost use Rattle.shr_model.specs.Groups.{is_child};
 ghost use Rattle.shr_model.specs.Items.{is_closed};
 ghost use Rattle.shr_audit_case.specs.Each.{EachFirst};
 ghost use Rattle.shr_audit_case.specs.Places.{AreInOrder, IsFirst};
@@ -17,7 +18,7 @@ use shr_audit_case::places::{is_first, journal_at};
 use shr_base::journals::Entry;
 use shr_base::memory::Memory;
 use shr_base::places::Place;
-use shr_report::report::Report;
+use shr_laws::report::Report;
 use std::alloc::Global;
 
 // Whether a group that is a child of this one was moved in, where it is told of each group whether

@@ -3,8 +3,8 @@ use Rattle.shr_audit_passes.proofs.Common.{◌≡◌, ℕ, suc, ◌<◌, ◌≤�
 use Rattle.shr_base.specs.declared.replies.Reply.{Reply}
 use Rattle.shr_base.specs.declared.scripts.Command.{Command}
 use Rattle.shr_model.specs.Commands.{is_serial}
-use Rattle.shr_report.specs.WalksLawful.{IsToldBy}
-use Rattle.shr_report.specs.WellFormed.{IsWellFormed}
+use Rattle.shr_laws.specs.WalksLawful.{IsToldBy}
+use Rattle.shr_laws.specs.WellFormed.{IsWellFormed}
 use Rattle.shr_audit_formed.proofs.WellParts.{parts_of}
 use Rattle.shr_audit_case.specs.Each.{AnswersInParts}
 use Rattle.shr_audit_case.proofs.Eachs.{each_answer_of}

@@ -21,9 +21,9 @@ pub use Rattle.shr_model.specs.Attempts.{Count, as_count, counts_of, is_held, pa
 pub use Rattle.shr_model.specs.Bits.{ids_in, is_set}
 pub use Rattle.shr_model.specs.Pass.{FollowsArithmetic, MadeOf, ask_size, batch_of, delta_of, due, due_asks, next_of, total_of}
 pub use Rattle.shr_model.specs.Walks.{freed_of, freed_told, is_cut, place_in}
-pub use Rattle.shr_report.specs.LawfulWalk.{AreScansOf, EachPass, IsBegun, IsCountRight, IsLastOfCut, IsLawfulWalk, IsOutcomeOf, IsPlaced, IsStopped, cache_asks_due, cache_of}
-pub use Rattle.shr_report.specs.Parts.{EachAnswer, EachAttempt, EachWalk, command_at, journals_of, parents_of, serial_of, walks_by, walks_in}
-pub use Rattle.shr_report.specs.declared.report.Report.{Report}
+pub use Rattle.shr_laws.specs.LawfulWalk.{AreScansOf, EachPass, IsBegun, IsCountRight, IsLastOfCut, IsLawfulWalk, IsOutcomeOf, IsPlaced, IsStopped, cache_asks_due, cache_of}
+pub use Rattle.shr_laws.specs.Parts.{EachAnswer, EachAttempt, EachWalk, command_at, journals_of, parents_of, serial_of, walks_by, walks_in}
+pub use Rattle.shr_laws.specs.declared.report.Report.{Report}
 pub use Rattle.shr_audit_passes.specs.Commands.{IsAnswerTold, IsPartTold, StandByCommand, walks_with}
 pub use Rattle.shr_audit_passes.specs.Counts.{AreCountsAt, AreCountsIn, IsCountIn}
 pub use Rattle.shr_audit_passes.specs.Fields.{AreFirstTries, AreTried, IsBareOffline, IsWalkMapped, IsOfRoot, IsRoomAt, IsRoomLast, IsShaped, IsWalkWhole, pass_freed, attempt_freed}

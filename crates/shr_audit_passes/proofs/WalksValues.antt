@@ -8,8 +8,8 @@ use Rattle.shr_base.specs.declared.walks.Outcome.TheVariants as outcome
 use Rattle.shr_base.specs.declared.walks.WalkAnswer.{WalkAnswer}
 use Rattle.shr_base.specs.declared.walks.WalkAnswer.TheVariants.{Walked, Offline, Memory}
 use Rattle.shr_model.specs.Items.{items_from}
-use Rattle.shr_report.proofs.ThirdReport.{place_of, script, report}
-use Rattle.shr_report.proofs.SecondReport.{kept}
+use Rattle.shr_laws.proofs.ThirdReport.{place_of, script, report}
+use Rattle.shr_laws.proofs.SecondReport.{kept}
 use Rattle.shr_audit_passes.specs.Seen.{ids_set_below}
 use Rattle.shr_base.specs.declared.replies.Reply.TheVariants as reply
 use Rattle.shr_base.specs.declared.replies.Reply.TheVariants.{Root}

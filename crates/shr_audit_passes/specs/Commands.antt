@@ -5,8 +5,8 @@ use Rattle.shr_base.specs.declared.replies.Answered.{Answered}
 use Rattle.shr_base.specs.declared.scripts.Command.{Command}
 use Rattle.shr_base.specs.declared.scripts.Script.{Script}
 use Rattle.shr_base.specs.Walks.{WalkRecord}
-use Rattle.shr_report.specs.Parts.{command_at, serial_of}
-use Rattle.shr_report.specs.WalksLawful.{IsToldBy}
+use Rattle.shr_laws.specs.Parts.{command_at, serial_of}
+use Rattle.shr_laws.specs.WalksLawful.{IsToldBy}
 use Rattle.shr_audit_formed.specs.Each.{Adjacent}
 
 -- as the walks of a worker stand in a well formed report

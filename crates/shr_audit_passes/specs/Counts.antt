@@ -7,9 +7,9 @@ use Rattle.shr_base.specs.Walks.{Attempt, WalkRecord}
 use Rattle.shr_model.specs.Attempts.{Count, counts_of}
 use Rattle.shr_model.specs.Families.{items_at}
 use Rattle.shr_model.specs.Walks.{place_in}
-use Rattle.shr_report.specs.declared.report.Report.{Report}
-use Rattle.shr_report.specs.LawfulWalk.{IsCountRight}
-use Rattle.shr_report.specs.Parts.{journals_of}
+use Rattle.shr_laws.specs.declared.report.Report.{Report}
+use Rattle.shr_laws.specs.LawfulWalk.{IsCountRight}
+use Rattle.shr_laws.specs.Parts.{journals_of}
 
 -- a count of a place is right, in a tree with these parents
 pub record IsCountIn (parents : List ℕ) (r : Report) (place : Place) (c : Count) : Type 0 where

@@ -11,7 +11,7 @@ use Rattle.shr_model.specs.Attempts.{pass_of}
 use Rattle.shr_model.specs.Bits.{units_of, ids_in}
 use Rattle.shr_model.specs.Walks.{units_seen, ids_seen, ids_tried, is_cut, freed_of, freed_told}
 use Rattle.shr_model.specs.Prefixes.{IsPrefixOf}
-use Rattle.shr_report.specs.LawfulWalk.{IsBegun, IsLastOfCut, IsPlaced}
+use Rattle.shr_laws.specs.LawfulWalk.{IsBegun, IsLastOfCut, IsPlaced}
 use Rattle.shr_audit_formed.specs.Each.{EachItem}
 
 -- a walk that found its group offline has no map and no attempt

@@ -6,8 +6,8 @@ use Rattle.shr_base.specs.declared.scripts.Script.{Script}
 use Rattle.shr_base.specs.Walks.{Attempt, WalkRecord}
 use Rattle.shr_base.specs.declared.walks.PassRecord.{PassRecord}
 use Rattle.shr_model.specs.Attempts.{is_held, pass_of}
-use Rattle.shr_report.specs.declared.report.Report.{Report}
-use Rattle.shr_report.specs.LawfulWalk.{cache_of, IsOutcomeOf, IsStopped}
+use Rattle.shr_laws.specs.declared.report.Report.{Report}
+use Rattle.shr_laws.specs.LawfulWalk.{cache_of, IsOutcomeOf, IsStopped}
 
 -- if it was held, it has an outcome of its cache
 abbrev pub IsKindAt : Script → Report → ℕ → Attempt → Type 0

@@ -9,7 +9,7 @@ ghost use Rattle.shr_model.specs.Attempts.{pass_of};
 ghost use Rattle.shr_model.specs.Bits.{units_of};
 ghost use Rattle.shr_model.specs.Walks.{freed_of, freed_told, is_cut};
 ghost use Rattle.shr_audit_formed.specs.Each.{EachItem};
-ghost use Rattle.shr_report.specs.LawfulWalk.{IsBegun, IsPlaced};
+ghost use Rattle.shr_laws.specs.LawfulWalk.{IsBegun, IsPlaced};
 ghost use Rattle.shr_audit_passes.specs.Fields.{AreFirstTries, AreTried, IsBareOffline, IsCutBegun, IsWalkMapped, IsOfRoot, IsRoomAt, IsRoomLast, IsWalkWhole, attempt_freed};
 
 use crate::seen::{ids_seen, tries_begin, tries_rise, units_rise};

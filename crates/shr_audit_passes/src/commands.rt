@@ -6,9 +6,9 @@ ghost use Rattle.shr_base.specs.declared.scripts.Script.{Script};
 ghost use Rattle.shr_base.specs.Walks.{WalkRecord};
 ghost use Rattle.shr_model.specs.Groups.{preorder_of};
 ghost use Rattle.shr_base.specs.declared.scripts.Command.{Command};
-ghost use Rattle.shr_report.specs.Parts.{command_at, parents_of, serial_of, walks_by, EachAnswer};
-ghost use Rattle.shr_report.specs.WellFormed.{IsWellFormed};
-ghost use Rattle.shr_report.specs.WalksLawful.{IsToldBy};
+ghost use Rattle.shr_laws.specs.Parts.{command_at, parents_of, serial_of, walks_by, EachAnswer};
+ghost use Rattle.shr_laws.specs.WellFormed.{IsWellFormed};
+ghost use Rattle.shr_laws.specs.WalksLawful.{IsToldBy};
 ghost use Rattle.shr_audit_passes.specs.Commands.{IsPartTold, StandByCommand};
 
 use crate::told::{is_balance_told, is_shrink_told};
@@ -16,7 +16,7 @@ use shr_base::ends::WorkerPart;
 use shr_base::replies::Reply;
 use shr_base::scripts::{Command, Script};
 use shr_base::walks::WalkRecord;
-use shr_report::report::Report;
+use shr_laws::report::Report;
 
 // The index of the first walk that isn't of an earlier command.
 fn first_of(walks: &[WalkRecord], command: usize) -> usize

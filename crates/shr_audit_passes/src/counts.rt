@@ -14,7 +14,7 @@ use shr_audit_case::case::Case;
 use shr_audit_case::places::journal_at;
 use shr_base::places::Place;
 use shr_base::walks::{Outcome, WalkRecord};
-use shr_report::report::Report;
+use shr_laws::report::Report;
 
 // The place of an id on the walk's node and in its group.
 fn place_in(walk: &WalkRecord, id: u16) -> Place

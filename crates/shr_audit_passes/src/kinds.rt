@@ -13,7 +13,7 @@ use shr_audit_case::met::Met;
 use shr_base::attempts::Attempt;
 use shr_base::scripts::Script;
 use shr_base::walks::WalkRecord;
-use shr_report::report::Report;
+use shr_laws::report::Report;
 
 // Whether an attempt, if it was held, has an outcome of its cache.
 fn is_kind_at(script: &Script, report: &Report, met: &Met, priority: u8, attempt: &Attempt) -> bool

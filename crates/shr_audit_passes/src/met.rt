@@ -3,15 +3,15 @@
 ghost use Rattle.std.specs.Prelude.{◌≡◌, option_copied};
 ghost use Rattle.shr_model.specs.Attempts.{is_held, number_of};
 ghost use Rattle.shr_model.specs.Pool.{decl_at, registrations};
-ghost use Rattle.shr_report.specs.LawfulWalk.{cache_of};
-ghost use Rattle.shr_report.specs.Parts.{lookups_at};
+ghost use Rattle.shr_laws.specs.LawfulWalk.{cache_of};
+ghost use Rattle.shr_laws.specs.Parts.{lookups_at};
 ghost use Rattle.shr_audit_case.specs.Met.{IsMetIn};
 
 use shr_audit_case::met::Met;
 use shr_base::attempts::Attempt;
 use shr_base::scripts::{CacheDecl, Script};
 use shr_base::walks::Outcome;
-use shr_report::report::Report;
+use shr_laws::report::Report;
 
 /// The number of an attempt's lookup, if there was one. Our own.
 pub fn number_of(outcome: &Outcome) -> Option<u32>

@@ -3,7 +3,7 @@
 ghost use Rattle.std.specs.Prelude.{◌≡◌, ◌<◌, ◌≤◌, ◌/◌, ◌^◌, ◌-◌, length, sum, take};
 ghost use Rattle.std.specs.Bool.{Decides};
 ghost use Rattle.shr_model.specs.Pass.{FollowsArithmetic, MadeOf, ask_size, batch_of, delta_of, due, total_of};
-ghost use Rattle.shr_report.specs.LawfulWalk.{IsOutcomeOf, IsPassOf, IsSkipped, IsStopped, cache_asks_due};
+ghost use Rattle.shr_laws.specs.LawfulWalk.{IsOutcomeOf, IsPassOf, IsSkipped, IsStopped, cache_asks_due};
 
 use shr_arith::formulas::next_deferred;
 use shr_base::scripts::CacheDecl;

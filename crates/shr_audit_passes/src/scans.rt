@@ -4,7 +4,7 @@ ghost use Rattle.std.specs.Prelude.{◌≡◌, ◌≤◌, map, sum_by};
 ghost use Rattle.std.specs.Bool.{Decides};
 ghost use Rattle.shr_base.specs.declared.objects.Policy.{Policy};
 ghost use Rattle.shr_audit_formed.specs.Each.{EachItem};
-ghost use Rattle.shr_report.specs.LawfulWalk.{AreScansOf};
+ghost use Rattle.shr_laws.specs.LawfulWalk.{AreScansOf};
 ghost use Rattle.shr_audit_passes.specs.Scans.{IsScanAfter, freed_of_scan, made_of_scan};
 
 use crate::passes::asks_due;

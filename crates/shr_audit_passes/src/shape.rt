@@ -3,7 +3,7 @@
 ghost use Rattle.std.specs.Prelude.{◌≡◌, IfOk};
 ghost use Rattle.std.specs.Bool.{Decides};
 ghost use Rattle.shr_audit_formed.specs.Each.{EachItem};
-ghost use Rattle.shr_report.specs.Parts.{EachWalk};
+ghost use Rattle.shr_laws.specs.Parts.{EachWalk};
 ghost use Rattle.shr_audit_passes.specs.Fields.{IsShaped};
 
 use crate::alone::{
@@ -12,7 +12,7 @@ use crate::alone::{
 use shr_base::memory::Memory;
 use shr_base::scripts::Script;
 use shr_base::walks::WalkRecord;
-use shr_report::report::Report;
+use shr_laws::report::Report;
 use std::alloc::Global;
 
 /// Whether a walk shows by itself what a lawful one shows. Our own.

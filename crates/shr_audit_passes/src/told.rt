@@ -5,7 +5,7 @@ ghost use Rattle.std.specs.Bool.{Decides};
 ghost use Rattle.std.specs.List.{list_any};
 ghost use Rattle.shr_base.specs.Walks.{WalkRecord};
 ghost use Rattle.shr_model.specs.Walks.{freed_told, is_cut};
-ghost use Rattle.shr_report.specs.WalksLawful.{balance_reply, reply_of, shrink_reply};
+ghost use Rattle.shr_laws.specs.WalksLawful.{balance_reply, reply_of, shrink_reply};
 
 use crate::alone::{freed_told, is_cut};
 use shr_base::replies::Reply;

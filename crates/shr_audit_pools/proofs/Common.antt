@@ -36,12 +36,12 @@ pub use Rattle.shr_audit_formed.specs.Each.{Adjacent, EachItem}
 pub use Rattle.shr_model.proofs.PlacesLaws.{is_place_itself, is_place_same}
 pub use Rattle.shr_model.specs.Places.{is_place}
 pub use Rattle.shr_model.specs.Units.{IsPlainEntry, IsPlainJournal, free_after, free_of}
-pub use Rattle.shr_report.specs.Numbers.{AreUnitsNumbered, HasNumbers, IsPartNumbered, IsPlainEntryNumbered, IsPlainNumbered}
-pub use Rattle.shr_report.specs.Parts.{EachAnswer, answers_in, at, commands_of, reply_at, serial_of}
-pub use Rattle.shr_report.specs.Pools.{ArePoolsLawful, AreUnitsRight, HasTries, IsKind, IsPlainCount, IsPlainLawful, IsPoolReply, ReclaimMade, freed_in_try, plain_told, plain_versions, pool_printed_at, reclaim_by, version_in}
-pub use Rattle.shr_report.specs.UnitParts.{EachPlain, EachTry, EachUnits, home_in, pass_at, pass_in, pool_passes, units_place_at, plain_by, plain_due, plain_in, plain_job_of, plain_of, pool_place, units_cited, units_cited_at, units_entries, units_journal}
-pub use Rattle.shr_report.specs.WellFormed.{AreNotFalling, IsAmountWell, IsPlaceBefore, IsPlaceUpTo, IsPoolAmountWell, IsWellFormed, units_place}
-pub use Rattle.shr_report.specs.declared.report.Report.{Report}
+pub use Rattle.shr_laws.specs.Numbers.{AreUnitsNumbered, HasNumbers, IsPartNumbered, IsPlainEntryNumbered, IsPlainNumbered}
+pub use Rattle.shr_laws.specs.Parts.{EachAnswer, answers_in, at, commands_of, reply_at, serial_of}
+pub use Rattle.shr_laws.specs.Pools.{ArePoolsLawful, AreUnitsRight, HasTries, IsKind, IsPlainCount, IsPlainLawful, IsPoolReply, ReclaimMade, freed_in_try, plain_told, plain_versions, pool_printed_at, reclaim_by, version_in}
+pub use Rattle.shr_laws.specs.UnitParts.{EachPlain, EachTry, EachUnits, home_in, pass_at, pass_in, pool_passes, units_place_at, plain_by, plain_due, plain_in, plain_job_of, plain_of, pool_place, units_cited, units_cited_at, units_entries, units_journal}
+pub use Rattle.shr_laws.specs.WellFormed.{AreNotFalling, IsAmountWell, IsPlaceBefore, IsPlaceUpTo, IsPoolAmountWell, IsWellFormed, units_place}
+pub use Rattle.shr_laws.specs.declared.report.Report.{Report}
 pub use Rattle.shr_audit_case.proofs.Gaining.{gains_as, gains_more}
 pub use Rattle.shr_audit_case.specs.Deferred.{GainsAtEach, IsNarrow, deferred_key}
 pub use Rattle.shr_audit_pools.specs.Cited.{AreEntriesRight, HasRight, IsEntryRight, IsPartRight, cite_at}

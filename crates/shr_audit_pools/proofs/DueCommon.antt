@@ -11,7 +11,7 @@ pub use Rattle.shr_base.specs.declared.replies.Answered.{Answered}
 pub use Rattle.shr_base.specs.declared.walks.PlainWalk.{PlainWalk}
 pub use Rattle.shr_audit_formed.proofs.Eachs.{all_at, below_of, clash, more_at}
 pub use Rattle.shr_audit_formed.specs.Each.{EachItem, IsWorkerCommand}
-pub use Rattle.shr_report.specs.Parts.{EachAnswer, commands_of, serial_of}
-pub use Rattle.shr_report.specs.UnitParts.{EachPlain, PlainJob, plain_by, plain_due, plain_in, plain_job_of}
-pub use Rattle.shr_report.specs.declared.report.Report.{Report}
+pub use Rattle.shr_laws.specs.Parts.{EachAnswer, commands_of, serial_of}
+pub use Rattle.shr_laws.specs.UnitParts.{EachPlain, PlainJob, plain_by, plain_due, plain_in, plain_job_of}
+pub use Rattle.shr_laws.specs.declared.report.Report.{Report}
 pub use Rattle.shr_audit_pools.specs.Due.{HasDue, IsDue, IsPartDue, PoolWalksByCommand, plain_walks_with}

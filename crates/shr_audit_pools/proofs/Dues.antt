@@ -4,7 +4,7 @@ use Rattle.std.specs.List.Sorted.{IsPartitionedBy, IsNonDecreasingBy}
 use Rattle.shr_base.specs.declared.scripts.Command.{Command}
 use Rattle.shr_base.specs.declared.scripts.Script.{Script}
 use Rattle.shr_model.specs.Commands.{is_serial}
-use Rattle.shr_report.specs.WellFormed.{IsWellFormed}
+use Rattle.shr_laws.specs.WellFormed.{IsWellFormed}
 use Rattle.shr_audit_formed.proofs.WellParts.{parts_of}
 use Rattle.shr_audit_case.specs.Each.{AnswersInParts}
 use Rattle.shr_audit_case.proofs.Eachs.{each_answer_of}

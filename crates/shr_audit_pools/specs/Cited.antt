@@ -9,11 +9,11 @@ use Rattle.shr_base.specs.declared.places.Serial.{Serial}
 use Rattle.shr_base.specs.declared.replies.Answered.{Answered}
 use Rattle.shr_base.specs.declared.scripts.Command.{Command}
 use Rattle.shr_base.specs.declared.scripts.Script.{Script}
-use Rattle.shr_report.specs.declared.report.Report.{Report}
-use Rattle.shr_report.specs.Parts.{at, commands_of, serial_of}
-use Rattle.shr_report.specs.Pools.{IsOfPlain, IsPoolReply}
-use Rattle.shr_report.specs.UnitParts.{plain_by_of, units_cited_at}
-use Rattle.shr_report.specs.WellFormed.{units_place}
+use Rattle.shr_laws.specs.declared.report.Report.{Report}
+use Rattle.shr_laws.specs.Parts.{at, commands_of, serial_of}
+use Rattle.shr_laws.specs.Pools.{IsOfPlain, IsPoolReply}
+use Rattle.shr_laws.specs.UnitParts.{plain_by_of, units_cited_at}
+use Rattle.shr_laws.specs.WellFormed.{units_place}
 use Rattle.shr_audit_pools.specs.declared.cites.Cite.{Cite}
 use Rattle.shr_audit_pools.specs.Places.{named_place}
 

@@ -7,9 +7,9 @@ use Rattle.shr_base.specs.declared.scripts.Command.{Command}
 use Rattle.shr_base.specs.declared.scripts.Script.{Script}
 use Rattle.shr_base.specs.declared.walks.PlainWalk.{PlainWalk}
 use Rattle.shr_audit_formed.specs.Each.{Adjacent}
-use Rattle.shr_report.specs.declared.report.Report.{Report}
-use Rattle.shr_report.specs.Parts.{command_at, commands_of, reply_at}
-use Rattle.shr_report.specs.UnitParts.{PlainJob, plain_due, plain_job_of}
+use Rattle.shr_laws.specs.declared.report.Report.{Report}
+use Rattle.shr_laws.specs.Parts.{command_at, commands_of, reply_at}
+use Rattle.shr_laws.specs.UnitParts.{PlainJob, plain_due, plain_job_of}
 use Rattle.shr_audit_pools.specs.declared.due.Job.{Job}
 
 -- what a walk of the pools is to do, as the law says it

@@ -6,10 +6,10 @@ use Rattle.shr_base.specs.declared.journals.PlainEntry.{PlainEntry}
 use Rattle.shr_base.specs.declared.scripts.Script.{Script}
 use Rattle.shr_model.specs.Units.{IsPlainJournal, free_of}
 use Rattle.shr_audit_formed.specs.Each.{Adjacent}
-use Rattle.shr_report.specs.declared.report.Report.{Report}
-use Rattle.shr_report.specs.Pools.{AreUnitsRight}
-use Rattle.shr_report.specs.UnitParts.{pool_place, units_place_at}
-use Rattle.shr_report.specs.WellFormed.{units_place}
+use Rattle.shr_laws.specs.declared.report.Report.{Report}
+use Rattle.shr_laws.specs.Pools.{AreUnitsRight}
+use Rattle.shr_laws.specs.UnitParts.{pool_place, units_place_at}
+use Rattle.shr_laws.specs.WellFormed.{units_place}
 
 -- each entry has the outcome that those before it leave it, and so many units are free behind the last
 pub record Leaves (entries : List PlainEntry) (free : ℕ) : Type 0 where

@@ -4,11 +4,11 @@ use Rattle.std.specs.List.{AllByRecursion}
 use Rattle.shr_base.specs.declared.places.Place.{Place}
 use Rattle.shr_base.specs.declared.replies.Reply.TheVariants as reply
 use Rattle.shr_base.specs.declared.scripts.Script.{Script}
-use Rattle.shr_report.specs.declared.report.Report.{Report}
-use Rattle.shr_report.specs.Parts.{at, reply_at, serial_of, EachAnswer}
-use Rattle.shr_report.specs.Pools.{IsPlainLawful, IsPoolReply, plain_versions}
-use Rattle.shr_report.specs.UnitParts.{EachPlain, EachUnits, plain_by, plain_due, plain_job_of, plain_of, units_cited_at}
-use Rattle.shr_report.specs.WellFormed.{AreNotFalling}
+use Rattle.shr_laws.specs.declared.report.Report.{Report}
+use Rattle.shr_laws.specs.Parts.{at, reply_at, serial_of, EachAnswer}
+use Rattle.shr_laws.specs.Pools.{IsPlainLawful, IsPoolReply, plain_versions}
+use Rattle.shr_laws.specs.UnitParts.{EachPlain, EachUnits, plain_by, plain_due, plain_job_of, plain_of, units_cited_at}
+use Rattle.shr_laws.specs.WellFormed.{AreNotFalling}
 use Rattle.shr_audit_pools.specs.Cited.{IsEntryRight}
 use Rattle.shr_audit_pools.specs.Due.{IsDue}
 use Rattle.shr_audit_pools.specs.Moved.{ArePoolWordsRight}

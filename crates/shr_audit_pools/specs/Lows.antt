@@ -14,9 +14,9 @@ use Rattle.shr_base.specs.declared.scripts.Script.{Script}
 use Rattle.shr_base.specs.declared.walks.PlainTry.{PlainTry}
 use Rattle.shr_base.specs.declared.walks.PlainWalk.{PlainWalk}
 use Rattle.shr_audit_formed.specs.Each.{EachItem}
-use Rattle.shr_report.specs.Parts.{at}
-use Rattle.shr_report.specs.Pools.{plain_versions, version_in}
-use Rattle.shr_report.specs.UnitParts.{home_in, units_place_at, pool_place, units_cited}
+use Rattle.shr_laws.specs.Parts.{at}
+use Rattle.shr_laws.specs.Pools.{plain_versions, version_in}
+use Rattle.shr_laws.specs.UnitParts.{home_in, units_place_at, pool_place, units_cited}
 use Rattle.shr_audit_pools.specs.Places.{pool_key}
 
 -- a table of numbers by the numbers of places

@@ -8,9 +8,9 @@ use Rattle.shr_base.specs.declared.walks.PlainTry.{PlainTry}
 use Rattle.shr_base.specs.declared.walks.PlainWalk.{PlainWalk}
 use Rattle.shr_model.specs.Deferred.{deferred_word}
 use Rattle.shr_model.specs.Places.{is_place}
-use Rattle.shr_report.specs.declared.report.Report.{Report}
-use Rattle.shr_report.specs.Pools.{pool_printed_at}
-use Rattle.shr_report.specs.UnitParts.{pass_at, pass_in, pool_passes, pool_place}
+use Rattle.shr_laws.specs.declared.report.Report.{Report}
+use Rattle.shr_laws.specs.Pools.{pool_printed_at}
+use Rattle.shr_laws.specs.UnitParts.{pass_at, pass_in, pool_passes, pool_place}
 
 -- what this says of a pass, 0 where there is none
 abbrev pub said_of_pass : (PassRecord → ℕ) → Option PassRecord → ℕ

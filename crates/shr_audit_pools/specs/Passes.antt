@@ -9,9 +9,9 @@ use Rattle.shr_base.specs.declared.walks.PlainTry.{PlainTry}
 use Rattle.shr_base.specs.declared.walks.PlainTry.TheVariants.{Ran}
 use Rattle.shr_base.specs.declared.walks.PlainWalk.{PlainWalk}
 use Rattle.shr_model.specs.Pass.{batch_of, due_asks, total_of}
-use Rattle.shr_report.specs.declared.report.Report.{Report}
-use Rattle.shr_report.specs.Pools.{IsKind, IsLastTry, IsPlainCount, IsPlainPass, ReclaimMade, reclaims_by}
-use Rattle.shr_report.specs.UnitParts.{units_journal}
+use Rattle.shr_laws.specs.declared.report.Report.{Report}
+use Rattle.shr_laws.specs.Pools.{IsKind, IsLastTry, IsPlainCount, IsPlainPass, ReclaimMade, reclaims_by}
+use Rattle.shr_laws.specs.UnitParts.{units_journal}
 use Rattle.shr_audit_pools.specs.declared.stock.Reclaimed.{Reclaimed}
 
 -- a Reclaim asked for so many units, and stands at this number or behind it

@@ -5,10 +5,10 @@ use Rattle.shr_base.specs.declared.places.Place.{Place}
 use Rattle.shr_model.specs.Places.{is_place}
 use Rattle.shr_model.specs.Units.{IsPlainJournal}
 use Rattle.shr_audit_formed.specs.Each.{Adjacent, EachItem}
-use Rattle.shr_report.specs.declared.report.Report.{Report}
-use Rattle.shr_report.specs.Numbers.{AreUnitsNumbered}
-use Rattle.shr_report.specs.UnitParts.{units_place_at}
-use Rattle.shr_report.specs.WellFormed.{units_place}
+use Rattle.shr_laws.specs.declared.report.Report.{Report}
+use Rattle.shr_laws.specs.Numbers.{AreUnitsNumbered}
+use Rattle.shr_laws.specs.UnitParts.{units_place_at}
+use Rattle.shr_laws.specs.WellFormed.{units_place}
 use Rattle.shr_audit_pools.specs.declared.places.PoolPlace.{PoolPlace}
 
 -- the place that the two numbers name

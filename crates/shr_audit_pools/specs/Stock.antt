@@ -6,7 +6,7 @@ use Rattle.shr_base.specs.declared.journals.PlainEntry.{PlainEntry}
 use Rattle.shr_base.specs.declared.journals.PlainEntry.TheVariants as plain
 use Rattle.shr_model.specs.Units.{free_of}
 use Rattle.shr_audit_formed.specs.Each.{Adjacent}
-use Rattle.shr_report.specs.Pools.{ReclaimMade, reclaims_by}
+use Rattle.shr_laws.specs.Pools.{ReclaimMade, reclaims_by}
 use Rattle.shr_audit_pools.specs.declared.stock.Reclaimed.{Reclaimed}
 use Rattle.shr_audit_pools.specs.declared.stock.Stock.{Stock}
 

@@ -2,8 +2,8 @@
 
 ghost use Rattle.std.specs.Prelude.{◌≡◌, ◌<◌, Some, option_copied, option_map, slice_get, IfSome};
 ghost use Rattle.std.specs.Bool.{Decides};
-ghost use Rattle.shr_report.specs.UnitParts.{units_cited, units_cited_at, units_journal};
-ghost use Rattle.shr_report.specs.Parts.{at};
+ghost use Rattle.shr_laws.specs.UnitParts.{units_cited, units_cited_at, units_journal};
+ghost use Rattle.shr_laws.specs.Parts.{at};
 ghost use Rattle.shr_audit_pools.specs.Cited.{cite_at};
 ghost use Rattle.shr_audit_pools.specs.Places.{AreKept, named_place};
 
@@ -12,7 +12,7 @@ use shr_audit_case::serials::answer_at;
 use shr_base::journals::PlainEntry;
 use shr_base::places::Serial;
 use shr_base::replies::Reply;
-use shr_report::report::Report;
+use shr_laws::report::Report;
 
 /// An entry of the journal of a pool on a node, by its number. Our own.
 #[derive(Clone, Copy, Debug, PartialEq, Eq)]

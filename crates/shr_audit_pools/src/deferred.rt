@@ -4,9 +4,9 @@ ghost use Rattle.std.specs.Prelude.{◌≡◌, ◌≤◌, cond, length, sum_by, 
 ghost use Rattle.std.specs.Bool.{Decides};
 ghost use Rattle.shr_audit_formed.specs.Each.{EachItem};
 ghost use Rattle.shr_model.specs.Places.{is_place};
-ghost use Rattle.shr_report.specs.Numbers.{HasNumbers};
-ghost use Rattle.shr_report.specs.UnitParts.{pass_in};
-ghost use Rattle.shr_report.specs.WellFormed.{IsWellFormed};
+ghost use Rattle.shr_laws.specs.Numbers.{HasNumbers};
+ghost use Rattle.shr_laws.specs.UnitParts.{pass_in};
+ghost use Rattle.shr_laws.specs.WellFormed.{IsWellFormed};
 ghost use Rattle.shr_audit_case.specs.Deferred.{GainsAtEach};
 ghost use Rattle.shr_audit_pools.specs.Lows.{HaveFewTries};
 ghost use Rattle.shr_audit_pools.specs.Moved.{ArePoolWordsRight, moved_at, moved_by_worker, pass_next, nr_of, said_of_pass};
@@ -19,7 +19,7 @@ use shr_base::ends::WorkerPart;
 use shr_base::memory::Memory;
 use shr_base::scripts::Script;
 use shr_base::walks::{PlainTry, PlainWalk};
-use shr_report::report::Report;
+use shr_laws::report::Report;
 use std::alloc::Global;
 
 // Adds what the pass of a try at a place deferred, and what it took over, if it ran one.

@@ -4,9 +4,9 @@ ghost use Rattle.std.specs.Prelude.{◌≡◌, ◌==◌, ℕ, ◌<◌, ◌≤◌
 ghost use Rattle.std.specs.Bool.{Decides};
 ghost use Rattle.shr_base.specs.declared.walks.PlainWalk.{PlainWalk};
 ghost use Rattle.shr_audit_formed.specs.Each.{EachItem};
-ghost use Rattle.shr_report.specs.Parts.{commands_of, EachAnswer};
-ghost use Rattle.shr_report.specs.UnitParts.{EachPlain, plain_by, plain_due, plain_job_of, plain_jobs};
-ghost use Rattle.shr_report.specs.WellFormed.{IsWellFormed};
+ghost use Rattle.shr_laws.specs.Parts.{commands_of, EachAnswer};
+ghost use Rattle.shr_laws.specs.UnitParts.{EachPlain, plain_by, plain_due, plain_job_of, plain_jobs};
+ghost use Rattle.shr_laws.specs.WellFormed.{IsWellFormed};
 ghost use Rattle.shr_audit_pools.specs.Due.{HasDue, IsDue, IsPartDue, PoolWalksByCommand, job_told};
 
 use shr_audit_case::serials::{answer_at, command_at};
@@ -14,7 +14,7 @@ use shr_base::ends::WorkerPart;
 use shr_base::replies::{Answered, Reply};
 use shr_base::scripts::{Command, Script};
 use shr_base::walks::PlainWalk;
-use shr_report::report::Report;
+use shr_laws::report::Report;
 
 /// What a walk of the pools is to do. Our own.
 #[derive(Clone, Copy, Debug, PartialEq, Eq)]

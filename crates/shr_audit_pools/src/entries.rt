@@ -5,8 +5,8 @@ ghost use Rattle.std.specs.Prelude.{◌≡◌, ℕ, ◌<◌, ⊤, Some, option_c
 ghost use Rattle.std.specs.Bool.{Decides};
 ghost use Rattle.std.specs.Option.{IsSomeAnd, IsSome};
 ghost use Rattle.shr_audit_formed.specs.Each.{EachItem};
-ghost use Rattle.shr_report.specs.UnitParts.{EachUnits, pass_at, plain_at};
-ghost use Rattle.shr_report.specs.WellFormed.{units_place};
+ghost use Rattle.shr_laws.specs.UnitParts.{EachUnits, pass_at, plain_at};
+ghost use Rattle.shr_laws.specs.WellFormed.{units_place};
 ghost use Rattle.shr_audit_pools.specs.Cited.{AreEntriesRight, IsEntryRight};
 ghost use Rattle.shr_audit_pools.specs.Places.{AreKept, named_place};
 
@@ -16,7 +16,7 @@ use shr_base::ends::UnitsEnd;
 use shr_base::journals::PlainEntry;
 use shr_base::scripts::Script;
 use shr_base::walks::{PlainTry, PlainWalk};
-use shr_report::report::Report;
+use shr_laws::report::Report;
 
 // A walk of the pools by the number of its worker and its own.
 fn plain_at(report: &Report, worker: u16, walk: u32) -> Option<&PlainWalk>

@@ -5,14 +5,14 @@ ghost use Rattle.std.specs.Bool.{Decides};
 ghost use Rattle.shr_base.specs.declared.journals.PlainEntry.{PlainEntry};
 ghost use Rattle.shr_audit_formed.specs.Each.{EachItem};
 ghost use Rattle.shr_model.specs.Units.{IsPlainEntry, IsPlainJournal, free_after, free_of};
-ghost use Rattle.shr_report.specs.Pools.{AreUnitsRight};
-ghost use Rattle.shr_report.specs.WellFormed.{IsWellFormed, units_place};
+ghost use Rattle.shr_laws.specs.Pools.{AreUnitsRight};
+ghost use Rattle.shr_laws.specs.WellFormed.{IsWellFormed, units_place};
 ghost use Rattle.shr_audit_pools.specs.Journals.{AreApart, AreJournalsRight, IsPoolHome, Leaves};
 
 use shr_base::ends::UnitsEnd;
 use shr_base::journals::PlainEntry;
 use shr_base::scripts::Script;
-use shr_report::report::Report;
+use shr_laws::report::Report;
 
 /// How many units are free after an entry, if it has the outcome that so many before it leave it.
 /// Our own.

@@ -5,9 +5,9 @@ ghost use Rattle.std.specs.Bool.{Decides};
 ghost use Rattle.shr_base.specs.declared.places.Place.{Place};
 ghost use Rattle.shr_audit_formed.specs.Each.{EachItem};
 ghost use Rattle.shr_model.specs.Pass.{FollowsArithmetic};
-ghost use Rattle.shr_report.specs.declared.report.Report.{Report};
-ghost use Rattle.shr_report.specs.Pools.{IsPlainEnding, IsPlainPass};
-ghost use Rattle.shr_report.specs.UnitParts.{units_journal};
+ghost use Rattle.shr_laws.specs.declared.report.Report.{Report};
+ghost use Rattle.shr_laws.specs.Pools.{IsPlainEnding, IsPlainPass};
+ghost use Rattle.shr_laws.specs.UnitParts.{units_journal};
 ghost use Rattle.shr_audit_pools.specs.Passes.{AreReclaimsOf, IsReclaimAfter, reclaim_freed};
 ghost use Rattle.shr_audit_pools.specs.Stock.{made_of_reclaim};
 

@@ -3,13 +3,13 @@
 ghost use Rattle.std.specs.Prelude.{◌≡◌, ℕ, ◌<◌, ◌≤◌, length, slice_get, Some, None, IfSome, IfNone};
 ghost use Rattle.std.specs.Bool.{Decides};
 ghost use Rattle.shr_base.specs.declared.ends.UnitsEnd.{UnitsEnd};
-ghost use Rattle.shr_report.specs.UnitParts.{home_in, pool_place, units_journal};
+ghost use Rattle.shr_laws.specs.UnitParts.{home_in, pool_place, units_journal};
 ghost use Rattle.shr_audit_pools.specs.Places.{AreKept, AreShelved, pool_key, named_place, journal_printed_at, units_key};
 
 use shr_base::ends::UnitsEnd;
 use shr_base::journals::PlainEntry;
 use shr_base::scripts::Script;
-use shr_report::report::Report;
+use shr_laws::report::Report;
 
 /// A pool on a node. Our own.
 #[derive(Clone, Copy, Debug, PartialEq, Eq)]

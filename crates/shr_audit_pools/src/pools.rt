@@ -2,9 +2,9 @@
 
 ghost use Rattle.std.specs.Prelude.{◌≤◌, length, IfOk};
 ghost use Rattle.std.specs.Bool.{Decides};
-ghost use Rattle.shr_report.specs.Numbers.{HasNumbers};
-ghost use Rattle.shr_report.specs.Pools.{ArePoolsLawful};
-ghost use Rattle.shr_report.specs.WellFormed.{IsWellFormed};
+ghost use Rattle.shr_laws.specs.Numbers.{HasNumbers};
+ghost use Rattle.shr_laws.specs.Pools.{ArePoolsLawful};
+ghost use Rattle.shr_laws.specs.WellFormed.{IsWellFormed};
 ghost use Rattle.shr_audit_pools.specs.Journals.{AreJournalsRight};
 ghost use Rattle.shr_audit_pools.specs.Law.{AreCitesRight, AreWalksRight};
 ghost use Rattle.shr_audit_pools.specs.Places.{AreKept};
@@ -21,7 +21,7 @@ use crate::versions::are_all_versed;
 use crate::walks::are_walks_lawful;
 use shr_base::memory::Memory;
 use shr_base::scripts::Script;
-use shr_report::report::Report;
+use shr_laws::report::Report;
 use std::alloc::Global;
 
 // Whether the fields on replies about pools hold.

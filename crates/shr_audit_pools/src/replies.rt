@@ -5,9 +5,9 @@ ghost use Rattle.std.specs.Bool.{Decides};
 ghost use Rattle.shr_base.specs.declared.journals.PlainEntry.TheVariants as plain;
 ghost use Rattle.shr_base.specs.declared.scripts.Command.TheVariants as command;
 ghost use Rattle.shr_base.specs.declared.scripts.Script.{Script};
-ghost use Rattle.shr_report.specs.Parts.{serial_of, EachAnswer};
-ghost use Rattle.shr_report.specs.Pools.{IsPoolReply};
-ghost use Rattle.shr_report.specs.UnitParts.{pool_place, units_journal};
+ghost use Rattle.shr_laws.specs.Parts.{serial_of, EachAnswer};
+ghost use Rattle.shr_laws.specs.Pools.{IsPoolReply};
+ghost use Rattle.shr_laws.specs.UnitParts.{pool_place, units_journal};
 ghost use Rattle.shr_audit_pools.specs.Cited.{HasRight, IsPartRight};
 ghost use Rattle.shr_audit_pools.specs.Places.{AreKept, named_place};
 ghost use Rattle.shr_audit_pools.specs.Stock.{AreStocksOf};
@@ -20,7 +20,7 @@ use shr_base::ends::WorkerPart;
 use shr_base::journals::PlainEntry;
 use shr_base::replies::{Answered, Reply};
 use shr_base::scripts::{Command, Script};
-use shr_report::report::Report;
+use shr_laws::report::Report;
 
 /// Which answer of a report: of this worker, to its command with this number. Our own.
 #[derive(Clone, Copy, Debug, PartialEq, Eq)]

@@ -10,7 +10,7 @@ use crate::lows::{low_at, no_lows, raise};
 use shr_base::ends::WorkerPart;
 use shr_base::memory::Memory;
 use shr_base::replies::{Answered, Reply};
-use shr_report::report::Report;
+use shr_laws::report::Report;
 use std::alloc::Global;
 use std::collections::HashMap;
 

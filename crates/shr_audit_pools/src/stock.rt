@@ -7,9 +7,9 @@ ghost use Rattle.shr_base.specs.declared.ends.UnitsEnd.{UnitsEnd};
 ghost use Rattle.shr_base.specs.declared.journals.PlainEntry.{PlainEntry};
 ghost use Rattle.shr_audit_formed.specs.Each.{EachItem};
 ghost use Rattle.shr_model.specs.Units.{IsPlainJournal};
-ghost use Rattle.shr_report.specs.Numbers.{IsPlainEntryNumbered};
-ghost use Rattle.shr_report.specs.Pools.{reclaims_by};
-ghost use Rattle.shr_report.specs.UnitParts.{units_journal};
+ghost use Rattle.shr_laws.specs.Numbers.{IsPlainEntryNumbered};
+ghost use Rattle.shr_laws.specs.Pools.{reclaims_by};
+ghost use Rattle.shr_laws.specs.UnitParts.{units_journal};
 ghost use Rattle.shr_audit_pools.specs.Places.{AreKept, named_place};
 ghost use Rattle.shr_audit_pools.specs.Stock.{AreFree, AreReclaims, AreStocksOf, IsFreeAfter, IsStockOf, StandByWalk, all_reclaims, made_of_reclaim, reclaimed_of, walk_key, reclaims_with_key};
 
@@ -18,7 +18,7 @@ use crate::places::{PoolPlace, index_of};
 use shr_base::ends::UnitsEnd;
 use shr_base::journals::PlainEntry;
 use shr_base::memory::Memory;
-use shr_report::report::Report;
+use shr_laws::report::Report;
 use std::alloc::Global;
 
 /// A Reclaim entry with its number, and its walk by one number. Our own.

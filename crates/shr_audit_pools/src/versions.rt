@@ -4,8 +4,8 @@ ghost use Rattle.std.specs.Prelude.{◌≡◌, ℕ, ◌<◌, ◌≤◌, Some, le
 ghost use Rattle.std.specs.Bool.{Decides};
 ghost use Rattle.shr_base.specs.declared.ends.WorkerPart.{WorkerPart};
 ghost use Rattle.shr_audit_formed.specs.Each.{EachItem};
-ghost use Rattle.shr_report.specs.Pools.{version_in};
-ghost use Rattle.shr_report.specs.WellFormed.{IsWellFormed};
+ghost use Rattle.shr_laws.specs.Pools.{version_in};
+ghost use Rattle.shr_laws.specs.WellFormed.{IsWellFormed};
 ghost use Rattle.shr_audit_pools.specs.Due.{PoolWalksByCommand};
 ghost use Rattle.shr_audit_pools.specs.Lows.{AreAllVersed, HaveFewTries, IsPartVersed, IsWalkHigh, NotesReplies, NotesTries};
 
@@ -17,7 +17,7 @@ use shr_base::memory::Memory;
 use shr_base::replies::Answered;
 use shr_base::scripts::Script;
 use shr_base::walks::{PlainTry, PlainWalk};
-use shr_report::report::Report;
+use shr_laws::report::Report;
 use std::alloc::Global;
 use std::collections::HashMap;
 

@@ -5,8 +5,8 @@ ghost use Rattle.std.specs.Bool.{Decides};
 ghost use Rattle.shr_base.specs.declared.ends.WorkerPart.{WorkerPart};
 ghost use Rattle.shr_base.specs.declared.walks.PlainWalk.{PlainWalk};
 ghost use Rattle.shr_model.specs.Places.{is_place};
-ghost use Rattle.shr_report.specs.Pools.{HasTries, IsKind, IsLastTry, IsPlainCount, IsPlainLawful, IsPlainPass, freed_in_try, len_in, plain_told, reclaims_by};
-ghost use Rattle.shr_report.specs.UnitParts.{EachPlain, EachTry, units_journal};
+ghost use Rattle.shr_laws.specs.Pools.{HasTries, IsKind, IsLastTry, IsPlainCount, IsPlainLawful, IsPlainPass, freed_in_try, len_in, plain_told, reclaims_by};
+ghost use Rattle.shr_laws.specs.UnitParts.{EachPlain, EachTry, units_journal};
 ghost use Rattle.shr_audit_pools.specs.Passes.{IsCutRight, IsRunRight, IsTryRight};
 ghost use Rattle.shr_audit_pools.specs.Places.{AreKept, named_place};
 ghost use Rattle.shr_audit_pools.specs.Stock.{AreStocksOf};
@@ -17,7 +17,7 @@ use crate::stock::{Stock, is_free_after, reclaims_at};
 use crate::versions::version_in;
 use shr_base::scripts::{PoolDecl, Script};
 use shr_base::walks::{Ending, PassRecord, PlainAnswer, PlainTry, PlainWalk};
-use shr_report::report::Report;
+use shr_laws::report::Report;
 
 /// Which try of a report: at this pool, which has this place, of this walk of the pools of this
 /// worker. Our own.

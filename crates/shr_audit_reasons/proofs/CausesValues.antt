@@ -5,7 +5,7 @@ use Rattle.shr_base.specs.declared.replies.Reply.TheVariants as reply
 use Rattle.shr_base.specs.declared.scripts.Command.TheVariants as command
 use Rattle.shr_base.specs.declared.walks.Outcome.TheVariants as outcome
 use Rattle.shr_model.specs.Pool.{phase_of}
-use Rattle.shr_report.proofs.FirstReport.{script, report}
+use Rattle.shr_laws.proofs.FirstReport.{script, report}
 use Rattle.shr_audit_reasons.specs.declared.cites.What.TheVariants as say
 
 -- ---- what an answer says

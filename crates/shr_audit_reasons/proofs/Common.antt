@@ -24,9 +24,9 @@ pub use Rattle.shr_audit_case.specs.Places.{IsFirst}
 pub use Rattle.shr_audit_formed.proofs.Eachs.{all_at, fails, more_at}
 pub use Rattle.shr_audit_formed.specs.Each.{EachItem}
 pub use Rattle.shr_model.specs.Pool.{id_of, phase_of}
-pub use Rattle.shr_report.specs.Parts.{EachAttempt, EachWalk, answer_at, answers_in, answers_of, command_at, decls_on, reply_at, serial_of}
-pub use Rattle.shr_report.specs.WellFormed.{IsTreeNumbered}
-pub use Rattle.shr_report.specs.declared.report.Report.{Report}
+pub use Rattle.shr_laws.specs.Parts.{EachAttempt, EachWalk, answer_at, answers_in, answers_of, command_at, decls_on, reply_at, serial_of}
+pub use Rattle.shr_laws.specs.WellFormed.{IsTreeNumbered}
+pub use Rattle.shr_laws.specs.declared.report.Report.{Report}
 pub use Rattle.shr_audit_reasons.specs.Behind.{AreBehind, HasBehinds, IsBehindOf, IsIdledBy, IsSecondOf}
 pub use Rattle.shr_audit_reasons.specs.Cites.{AreCited, AreCitedBefore, AnswerCites, CitesNow, IsEarlier, IsFreedAt, IsNever, IsNextOf, IsEntryOfId, NotesAnswer, TellsCited, after_cited, cited_in, is_registered_by, is_unregistered_by, noted_at}
 pub use Rattle.shr_audit_reasons.specs.Registrations.{AreMade, AreRegistrationsCaused, IsEntryCited}

@@ -5,7 +5,7 @@ use native.Mathlib.Decide.{ℕ_discrete}
 use Rattle.std.proofs.lemmas.Bool.{eq-eqb, ne_eqb}
 use Rattle.std.proofs.lemmas.List.Elements.{filter-append}
 use Rattle.std.proofs.lemmas.List.Sums.{length-filter}
-use Rattle.shr_report.specs.Causes.{is_of_worker}
+use Rattle.shr_laws.specs.Causes.{is_of_worker}
 
 one_in : {X : Type 0} (p : X → Bool) (y : X) (b : Bool) → p y ≡ b → length (filter p (y ∷ [])) ≡ cond b 1 0
 one_in p y true e = rw e refl

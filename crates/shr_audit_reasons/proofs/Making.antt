@@ -4,7 +4,7 @@ use Rattle.std.specs.List.{cons_option, enumerate_from}
 use Rattle.std.proofs.lemmas.List.Sums.{sum_by-cons}
 use Rattle.shr_base.specs.declared.replies.Reply.TheVariants as reply
 use Rattle.shr_base.specs.declared.scripts.CacheDecl.{CacheDecl}
-use Rattle.shr_report.specs.Causes.{IsMadeBy}
+use Rattle.shr_laws.specs.Causes.{IsMadeBy}
 use Rattle.shr_audit_reasons.specs.declared.cites.What.TheVariants as what
 use Rattle.shr_audit_reasons.specs.declared.registrations.Made.{Made}
 use Rattle.shr_audit_reasons.proofs.Phases.{before_of, first_of_second, second_of_first}

@@ -16,8 +16,8 @@ pub use Rattle.shr_audit_formed.proofs.Eachs.{all_at, each_all, each_more, fails
 pub use Rattle.shr_audit_formed.specs.Each.{EachItem}
 pub use Rattle.shr_model.proofs.Lists.{zero_more}
 pub use Rattle.shr_model.specs.Commands.{is_put}
-pub use Rattle.shr_report.specs.Parts.{EachAttempt}
-pub use Rattle.shr_report.specs.UnitParts.{EachPlain, EachTry, pass_in, plain_in, pool_place}
-pub use Rattle.shr_report.specs.declared.report.Report.{Report}
+pub use Rattle.shr_laws.specs.Parts.{EachAttempt}
+pub use Rattle.shr_laws.specs.UnitParts.{EachPlain, EachTry, pass_in, plain_in, pool_place}
+pub use Rattle.shr_laws.specs.declared.report.Report.{Report}
 pub use Rattle.shr_audit_reasons.specs.Counted.{AreCounted, IsCapped, closed_of, is_of_kind, worker_uses}
 pub use Rattle.shr_audit_reasons.specs.Passes.{IsEndSpent, IsRunCaused, IsTryCaused, IsTrySpent}

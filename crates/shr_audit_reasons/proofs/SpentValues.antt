@@ -3,7 +3,7 @@ use Rattle.shr_audit_reasons.proofs.SpentCommon.{◌≡◌, true, false, [], ref
 use Rattle.shr_base.specs.declared.places.Place.{Place}
 use Rattle.shr_base.specs.declared.replies.Spent.TheVariants as spent
 use Rattle.shr_base.specs.declared.walks.Ending.TheVariants as ending
-use Rattle.shr_report.proofs.FirstReport.{report}
+use Rattle.shr_laws.proofs.FirstReport.{report}
 
 -- ---- counts
 

@@ -9,9 +9,9 @@ use Rattle.shr_base.specs.declared.scripts.Command.{Command}
 use Rattle.shr_base.specs.declared.scripts.Command.TheVariants as command
 use Rattle.shr_base.specs.declared.scripts.Script.{Script}
 use Rattle.shr_model.specs.Pool.{id_of}
-use Rattle.shr_report.specs.declared.report.Report.{Report}
-use Rattle.shr_report.specs.Causes.{MayHaveBegun, is_done_by, is_made_by}
-use Rattle.shr_report.specs.Parts.{command_at, reply_at, serial_of}
+use Rattle.shr_laws.specs.declared.report.Report.{Report}
+use Rattle.shr_laws.specs.Causes.{MayHaveBegun, is_done_by, is_made_by}
+use Rattle.shr_laws.specs.Parts.{command_at, reply_at, serial_of}
 use Rattle.shr_audit_reasons.specs.declared.cites.What.{What}
 use Rattle.shr_audit_reasons.specs.declared.cites.What.TheVariants as say
 use Rattle.shr_audit_reasons.specs.declared.cites.Cited.{Cited}

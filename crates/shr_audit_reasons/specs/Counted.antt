@@ -4,9 +4,9 @@ use Rattle.shr_base.specs.declared.journals.UseStep.{UseStep}
 use Rattle.shr_base.specs.declared.ends.PlaceEnd.{PlaceEnd}
 use Rattle.shr_base.specs.declared.scripts.Script.{Script}
 use Rattle.shr_model.specs.Items.{is_closed}
-use Rattle.shr_report.specs.declared.report.Report.{Report}
-use Rattle.shr_report.specs.Causes.{is_of_worker}
-use Rattle.shr_report.specs.Parts.{puts_of}
+use Rattle.shr_laws.specs.declared.report.Report.{Report}
+use Rattle.shr_laws.specs.Causes.{is_of_worker}
+use Rattle.shr_laws.specs.Parts.{puts_of}
 use Rattle.shr_audit_reasons.specs.declared.counted.Counted.{Counted}
 
 -- whether each list is closed

@@ -11,10 +11,10 @@ use Rattle.shr_base.specs.declared.walks.PassRecord.{PassRecord}
 use Rattle.shr_base.specs.declared.walks.PlainTry.{PlainTry}
 use Rattle.shr_model.specs.Attempts.{pass_of}
 use Rattle.shr_model.specs.Walks.{place_in}
-use Rattle.shr_report.specs.declared.report.Report.{Report}
-use Rattle.shr_report.specs.Causes.{IsPassCaused, IsPoolSpent}
-use Rattle.shr_report.specs.Parts.{EachAttempt, EachWalk}
-use Rattle.shr_report.specs.UnitParts.{EachPlain, EachTry, pass_in, pool_place}
+use Rattle.shr_laws.specs.declared.report.Report.{Report}
+use Rattle.shr_laws.specs.Causes.{IsPassCaused, IsPoolSpent}
+use Rattle.shr_laws.specs.Parts.{EachAttempt, EachWalk}
+use Rattle.shr_laws.specs.UnitParts.{EachPlain, EachTry, pass_in, pool_place}
 
 -- the pass of an attempt of a walk has its cause
 abbrev pub IsRunCaused : Script → Report → ℕ → WalkRecord → Attempt → Type 0

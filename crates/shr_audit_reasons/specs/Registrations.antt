@@ -5,9 +5,9 @@ use Rattle.shr_base.specs.declared.places.Serial.{Serial}
 use Rattle.shr_base.specs.declared.journals.PoolEntry.{PoolEntry}
 use Rattle.shr_base.specs.declared.journals.PoolEntry.TheVariants.{Registered, Unregistered, Idle}
 use Rattle.shr_base.specs.declared.scripts.Script.{Script}
-use Rattle.shr_report.specs.declared.report.Report.{Report}
-use Rattle.shr_report.specs.Causes.{IsMadeBy}
-use Rattle.shr_report.specs.Parts.{decls_on, reply_at}
+use Rattle.shr_laws.specs.declared.report.Report.{Report}
+use Rattle.shr_laws.specs.Causes.{IsMadeBy}
+use Rattle.shr_laws.specs.Parts.{decls_on, reply_at}
 use Rattle.shr_audit_reasons.specs.declared.cites.Cited.{Cited}
 use Rattle.shr_audit_reasons.specs.declared.cites.What.TheVariants as what
 use Rattle.shr_audit_reasons.specs.declared.registrations.Made.{Made}

@@ -4,9 +4,9 @@ use Rattle.shr_base.specs.declared.places.Serial.{Serial}
 use Rattle.shr_base.specs.declared.journals.TreeEntry.{TreeEntry}
 use Rattle.shr_base.specs.declared.journals.TreeEntry.TheVariants.{Begin, Done, Made}
 use Rattle.shr_base.specs.declared.scripts.Script.{Script}
-use Rattle.shr_report.specs.declared.report.Report.{Report}
-use Rattle.shr_report.specs.Causes as causes
-use Rattle.shr_report.specs.Causes.{IsOffline, MayHaveBegun, StandsInTree}
+use Rattle.shr_laws.specs.declared.report.Report.{Report}
+use Rattle.shr_laws.specs.Causes as causes
+use Rattle.shr_laws.specs.Causes.{IsOffline, MayHaveBegun, StandsInTree}
 use Rattle.shr_audit_reasons.specs.declared.cites.Cited.{Cited}
 use Rattle.shr_audit_reasons.specs.declared.cites.Cited.TheVariants.{Never, Once, Often}
 use Rattle.shr_audit_reasons.specs.Cites.{cited_in}

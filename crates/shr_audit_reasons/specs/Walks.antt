@@ -11,9 +11,9 @@ use Rattle.shr_base.specs.Walks.{Attempt, WalkRecord}
 use Rattle.shr_base.specs.declared.walks.Outcome.{Outcome}
 use Rattle.shr_base.specs.declared.walks.Outcome.TheVariants as outcome
 use Rattle.shr_base.specs.declared.walks.WalkAnswer.TheVariants as walk
-use Rattle.shr_report.specs.declared.report.Report.{Report}
-use Rattle.shr_report.specs.Causes.{HasDrained, IsSpent, StandsInTree}
-use Rattle.shr_report.specs.Parts.{reply_at}
+use Rattle.shr_laws.specs.declared.report.Report.{Report}
+use Rattle.shr_laws.specs.Causes.{HasDrained, IsSpent, StandsInTree}
+use Rattle.shr_laws.specs.Parts.{reply_at}
 
 -- a walk that found its group offline cites its Begin
 abbrev pub CitesBegin : Report → WalkRecord → Type 0

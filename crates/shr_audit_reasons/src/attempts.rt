@@ -6,15 +6,15 @@ ghost use Rattle.shr_base.specs.declared.ends.WorkerPart.{WorkerPart};
 ghost use Rattle.shr_base.specs.declared.replies.Spent.TheVariants.{Lookups};
 ghost use Rattle.shr_base.specs.Walks.{WalkRecord};
 ghost use Rattle.shr_audit_formed.specs.Each.{EachItem};
-ghost use Rattle.shr_report.specs.Causes.{IsSpent};
-ghost use Rattle.shr_report.specs.Parts.{EachAttempt, EachWalk, lookups_at};
+ghost use Rattle.shr_laws.specs.Causes.{IsSpent};
+ghost use Rattle.shr_laws.specs.Parts.{EachAttempt, EachWalk, lookups_at};
 ghost use Rattle.shr_audit_reasons.specs.Walks.{IsAttemptCaused, IsWornRightly};
 
 use shr_base::attempts::Attempt;
 use shr_base::ends::WorkerPart;
 use shr_base::scripts::Script;
 use shr_base::walks::{Outcome, WalkRecord};
-use shr_report::report::Report;
+use shr_laws::report::Report;
 
 // The printed lookups of an id.
 fn lookups_at(report: &Report, id: u16) -> u32

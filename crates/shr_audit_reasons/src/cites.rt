@@ -4,7 +4,7 @@ ghost use Rattle.std.specs.Prelude.{◌≡◌, ℕ, ◌↔◌, IfOk, Some, optio
 ghost use Rattle.std.specs.Bool.{Decides};
 ghost use Rattle.shr_base.specs.declared.scripts.Command.TheVariants.{Offline};
 ghost use Rattle.shr_model.specs.Pool.{id_of};
-ghost use Rattle.shr_report.specs.Causes.{MayHaveBegun, is_done_by, is_made_by};
+ghost use Rattle.shr_laws.specs.Causes.{MayHaveBegun, is_done_by, is_made_by};
 ghost use Rattle.shr_audit_reasons.specs.Cites.{AreCited, CitesNow, IsBegunBy, IsFreedAt, IsNever, IsNextOf, NotesAnswer, NotesWorker, after_cited, cited_in, is_registered_by, is_unregistered_by, noted_at};
 
 use shr_audit_replies::numbers::{answer_of, command_of, count_answers};
@@ -12,7 +12,7 @@ use shr_base::journals::PoolEntry;
 use shr_base::memory::Memory;
 use shr_base::replies::Reply;
 use shr_base::scripts::{Command, Script};
-use shr_report::report::Report;
+use shr_laws::report::Report;
 use std::alloc::Global;
 
 /// What an answer may say of an entry or of a group. Our own.

@@ -6,14 +6,14 @@ ghost use Rattle.shr_base.specs.declared.scripts.Command.{Command};
 ghost use Rattle.shr_base.specs.declared.scripts.WorkerScript.{WorkerScript};
 ghost use Rattle.shr_model.specs.Commands.{is_put};
 ghost use Rattle.shr_model.specs.Items.{is_closed, is_closing};
-ghost use Rattle.shr_report.specs.Parts.{puts_of};
+ghost use Rattle.shr_laws.specs.Parts.{puts_of};
 ghost use Rattle.shr_audit_reasons.specs.Counted.{AreCounted, IsCapped, IsCountOf, closed_of, is_of_kind};
 
 use shr_base::ends::PlaceEnd;
 use shr_base::journals::{Entry, UseStep};
 use shr_base::memory::Memory;
 use shr_base::scripts::{Command, Script, WorkerScript};
-use shr_report::report::Report;
+use shr_laws::report::Report;
 use std::alloc::Global;
 
 /// What is counted once of a script and a report. A count stops at 4,294,967,295. Our own.

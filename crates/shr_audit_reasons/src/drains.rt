@@ -6,8 +6,8 @@ ghost use Rattle.std.specs.Option.{IsSomeAnd};
 ghost use Rattle.shr_audit_case.specs.Each.{EachFirst};
 ghost use Rattle.shr_audit_case.specs.Places.{AreInOrder};
 ghost use Rattle.shr_audit_formed.specs.Each.{EachItem};
-ghost use Rattle.shr_report.specs.Causes.{HasDrained};
-ghost use Rattle.shr_report.specs.Parts.{EachEntry, reply_at};
+ghost use Rattle.shr_laws.specs.Causes.{HasDrained};
+ghost use Rattle.shr_laws.specs.Parts.{EachEntry, reply_at};
 ghost use Rattle.shr_audit_reasons.specs.Walks.{IsDrainedRightly};
 
 use shr_audit_case::places::is_first;
@@ -16,7 +16,7 @@ use shr_base::ends::PlaceEnd;
 use shr_base::journals::Entry;
 use shr_base::places::Serial;
 use shr_base::replies::Reply;
-use shr_report::report::Report;
+use shr_laws::report::Report;
 
 // Whether a reply is that of an `unregister` that went so far as to drain.
 fn is_of_drain(reply: &Reply) -> bool

@@ -6,8 +6,8 @@ ghost use Rattle.shr_base.specs.declared.ends.WorkerPart.{WorkerPart};
 ghost use Rattle.shr_base.specs.Walks.{WalkRecord};
 ghost use Rattle.shr_audit_formed.specs.Each.{EachItem};
 ghost use Rattle.shr_model.specs.Attempts.{pass_of};
-ghost use Rattle.shr_report.specs.Causes.{IsPassCaused};
-ghost use Rattle.shr_report.specs.Parts.{EachAttempt};
+ghost use Rattle.shr_laws.specs.Causes.{IsPassCaused};
+ghost use Rattle.shr_laws.specs.Parts.{EachAttempt};
 ghost use Rattle.shr_audit_case.specs.Places.{AreInOrder};
 ghost use Rattle.shr_audit_reasons.specs.Counted.{IsCountOf};
 ghost use Rattle.shr_audit_reasons.specs.Passes.{ArePassesCaused, IsRunCaused};
@@ -19,7 +19,7 @@ use shr_base::ends::WorkerPart;
 use shr_base::places::Place;
 use shr_base::scripts::Script;
 use shr_base::walks::{Outcome, PassRecord, WalkRecord};
-use shr_report::report::Report;
+use shr_laws::report::Report;
 
 // The pass that an attempt ran to its end, if it did.
 fn pass_of(outcome: &Outcome) -> Option<PassRecord>

@@ -4,14 +4,14 @@ ghost use Rattle.std.specs.Prelude.{◌≡◌, ℕ, Some, slice_get};
 ghost use Rattle.std.specs.Bool.{Decides};
 ghost use Rattle.shr_base.specs.declared.walks.PlainTry.{PlainTry};
 ghost use Rattle.shr_audit_formed.specs.Each.{EachItem};
-ghost use Rattle.shr_report.specs.UnitParts.{pool_place};
+ghost use Rattle.shr_laws.specs.UnitParts.{pool_place};
 ghost use Rattle.shr_audit_reasons.specs.Passes.{AreTriesCaused, IsEndSpent, IsTryCaused, IsTrySpent};
 
 use crate::pools::is_pool_spent;
 use shr_base::ends::WorkerPart;
 use shr_base::scripts::Script;
 use shr_base::walks::{Ending, PlainTry, PlainWalk};
-use shr_report::report::Report;
+use shr_laws::report::Report;
 
 // Whether a pass of a pool that is worn is so by the pool's journal.
 fn is_end_spent(script: &Script, report: &Report, pool: usize, node: u8, ending: Ending) -> bool

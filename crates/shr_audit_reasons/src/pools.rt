@@ -4,16 +4,16 @@ ghost use Rattle.std.specs.Prelude.{◌≡◌, ◌+◌, ◌^◌, ◌<◌, ◌≤
 ghost use Rattle.std.specs.Bool.{Decides};
 ghost use Rattle.shr_model.specs.Places.{is_place};
 ghost use Rattle.shr_model.specs.Units.{free_after, free_of};
-ghost use Rattle.shr_report.specs.Causes.{IsPoolSpent};
-ghost use Rattle.shr_report.specs.UnitParts.{home_in, pool_place, units_journal};
-ghost use Rattle.shr_report.specs.WellFormed.{units_place};
+ghost use Rattle.shr_laws.specs.Causes.{IsPoolSpent};
+ghost use Rattle.shr_laws.specs.UnitParts.{home_in, pool_place, units_journal};
+ghost use Rattle.shr_laws.specs.WellFormed.{units_place};
 
 use shr_base::ends::UnitsEnd;
 use shr_base::journals::PlainEntry;
 use shr_base::places::Place;
 use shr_base::replies::Spent;
 use shr_base::scripts::Script;
-use shr_report::report::Report;
+use shr_laws::report::Report;
 
 // Whether a pool's journal is that of a place.
 fn is_of_place(units: &UnitsEnd, place: Place) -> bool

@@ -3,7 +3,7 @@
 ghost use Rattle.std.specs.Prelude.{◌≡◌, ℕ, ◌<◌, ◌≤◌, Some, length, slice_get, IfOk};
 ghost use Rattle.std.specs.Bool.{Decides};
 ghost use Rattle.shr_base.specs.declared.journals.PoolEntry.{PoolEntry};
-ghost use Rattle.shr_report.specs.Parts.{decls_on};
+ghost use Rattle.shr_laws.specs.Parts.{decls_on};
 ghost use Rattle.shr_audit_reasons.specs.Registrations.{AreMade, AreRegistrationsCaused, IsEntryCited, IsFreedBehind};
 
 use crate::behind::behinds_of;
@@ -12,7 +12,7 @@ use crate::trees::is_cited;
 use shr_base::journals::PoolEntry;
 use shr_base::memory::Memory;
 use shr_base::scripts::Script;
-use shr_report::report::Report;
+use shr_laws::report::Report;
 use std::alloc::Global;
 
 /// How many caches of a script are `on`. Our own.

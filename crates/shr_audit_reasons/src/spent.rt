@@ -3,8 +3,8 @@
 ghost use Rattle.std.specs.Prelude.{◌≡◌, ◌<◌, length};
 ghost use Rattle.std.specs.Bool.{Decides};
 ghost use Rattle.shr_model.specs.Items.{is_closed};
-ghost use Rattle.shr_report.specs.Causes.{IsEndingRight, IsSpent};
-ghost use Rattle.shr_report.specs.Parts.{journals_of, lookups_at};
+ghost use Rattle.shr_laws.specs.Causes.{IsEndingRight, IsSpent};
+ghost use Rattle.shr_laws.specs.Parts.{journals_of, lookups_at};
 ghost use Rattle.shr_audit_case.specs.Places.{AreInOrder};
 ghost use Rattle.shr_audit_reasons.specs.Counted.{IsCountOf};
 
@@ -14,7 +14,7 @@ use shr_base::places::Place;
 use shr_base::replies::Spent;
 use shr_base::scripts::Script;
 use shr_base::walks::Ending;
-use shr_report::report::Report;
+use shr_laws::report::Report;
 
 // The printed lookups of an id.
 fn lookups_at(report: &Report, id: u16) -> u32

@@ -2,10 +2,10 @@
 
 ghost use Rattle.std.specs.Bool.{Decides};
 ghost use Rattle.shr_base.specs.declared.journals.TreeEntry.TheVariants.{Begin, Done, Made};
-ghost use Rattle.shr_report.specs.Causes.{StandsInTree};
+ghost use Rattle.shr_laws.specs.Causes.{StandsInTree};
 
 use shr_base::journals::TreeEntry;
-use shr_report::report::Report;
+use shr_laws::report::Report;
 
 /// Whether an entry of the journal of the tree is the Begin of a group. Our own.
 pub fn is_begin_of(report: &Report, entry: u32, group: u16) -> bool

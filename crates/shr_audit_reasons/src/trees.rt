@@ -10,7 +10,7 @@ use shr_audit_formed::tables::tree_fits;
 use shr_base::journals::TreeEntry;
 use shr_base::memory::Memory;
 use shr_base::scripts::Script;
-use shr_report::report::Report;
+use shr_laws::report::Report;
 use std::alloc::Global;
 
 fn is_once(cited: Cited) -> bool

@@ -2,13 +2,13 @@
 
 ghost use Rattle.std.specs.Bool.{Decides};
 ghost use Rattle.shr_audit_formed.specs.Each.{EachItem};
-ghost use Rattle.shr_report.specs.Parts.{EachWalk};
+ghost use Rattle.shr_laws.specs.Parts.{EachWalk};
 ghost use Rattle.shr_audit_reasons.specs.Walks.{CitesBegin};
 
 use crate::tree::is_begin_of;
 use shr_base::ends::WorkerPart;
 use shr_base::walks::{WalkAnswer, WalkRecord};
-use shr_report::report::Report;
+use shr_laws::report::Report;
 
 // Whether a walk that found its group offline cites its Begin.
 fn walk_begins(report: &Report, walk: &WalkRecord) -> bool

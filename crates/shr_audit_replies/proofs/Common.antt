@@ -24,9 +24,9 @@ pub use Rattle.shr_audit_case.specs.Places.{IsFirst}
 pub use Rattle.shr_audit_formed.proofs.Eachs.{all_at, below_of, clash, fails, more_at}
 pub use Rattle.shr_model.specs.Families.{Family}
 pub use Rattle.shr_model.specs.Tenants.{by_of}
-pub use Rattle.shr_report.specs.Parts.{EachAnswer, answer_at, answers_in, answers_of, at, cited_at, cited_by, command_at, commands_of, id_found, journals_of, parents_of, reply_at, serial_of}
-pub use Rattle.shr_report.specs.ReplyTable.{Cites, IsReply, LendsValue}
-pub use Rattle.shr_report.specs.declared.report.Report.{Report}
+pub use Rattle.shr_laws.specs.Parts.{EachAnswer, answer_at, answers_in, answers_of, at, cited_at, cited_by, command_at, commands_of, id_found, journals_of, parents_of, reply_at, serial_of}
+pub use Rattle.shr_laws.specs.ReplyTable.{Cites, IsReply, LendsValue}
+pub use Rattle.shr_laws.specs.declared.report.Report.{Report}
 pub use Rattle.shr_audit_replies.specs.Answers.{AreAnswered, AreValuesLent, IsAnswered, MayReply}
 pub use Rattle.shr_audit_replies.specs.Cited.{AreEntriesCited, AreJournalsRising, AreCommandsRising, IsCited}
 pub use Rattle.shr_audit_replies.specs.Heads.{AreLastSwept, HasAnswers, HasNames, HasPaths, HasPoolNames, HasSizes, AllHaveAnswers, IsLastSwept}

@@ -1,6 +1,6 @@
 -- The law on replies, from what is tested of it and back.
 use Rattle.shr_audit_replies.proofs.Common.{Script, Report, AreValuesLent, AreRepliesLawfulButValues}
-use Rattle.shr_report.specs.Replies.{AreRepliesLawful}
+use Rattle.shr_laws.specs.Replies.{AreRepliesLawful}
 use Rattle.shr_audit_replies.proofs.Answering.{answers_whole, answers_without, values_of}
 
 -- the law holds if and only if it does whatever values hits lend, and these are the right ones

@@ -11,9 +11,9 @@ use Rattle.shr_base.specs.declared.scripts.Command.{Command}
 use Rattle.shr_base.specs.declared.scripts.Command.TheVariants.{On}
 use Rattle.shr_base.specs.declared.scripts.Script.{Script}
 use Rattle.shr_model.specs.Families.{Family}
-use Rattle.shr_report.specs.declared.report.Report.{Report}
-use Rattle.shr_report.specs.Parts.{parents_of, journals_of, reply_at, id_found, at, EachAnswer, EachEntry}
-use Rattle.shr_report.specs.ReplyTable.{Cites, IsReply, LendsValue}
+use Rattle.shr_laws.specs.declared.report.Report.{Report}
+use Rattle.shr_laws.specs.Parts.{parents_of, journals_of, reply_at, id_found, at, EachAnswer, EachEntry}
+use Rattle.shr_laws.specs.ReplyTable.{Cites, IsReply, LendsValue}
 
 -- a `get` may be answered so with a cache that was found, whatever value it lends
 abbrev pub MayGet : List ℕ → Family → Serial → Target → List ℕ → ℕ → Reply → Type 0

@@ -4,8 +4,8 @@ use Rattle.shr_base.specs.declared.places.Place.{Place}
 use Rattle.shr_base.specs.declared.places.Serial.{Serial}
 use Rattle.shr_base.specs.declared.journals.Entry.{Entry}
 use Rattle.shr_model.specs.Tenants.{by_of}
-use Rattle.shr_report.specs.declared.report.Report.{Report}
-use Rattle.shr_report.specs.Parts.{at, cited_at, journals_of, EachEntry}
+use Rattle.shr_laws.specs.declared.report.Report.{Report}
+use Rattle.shr_laws.specs.Parts.{at, cited_at, journals_of, EachEntry}
 
 -- an entry of a place is cited by the reply to its command, if it is a tenant's
 abbrev pub IsCited : Report → Place → ℕ → Entry → Type 0

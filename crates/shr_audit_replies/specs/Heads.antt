@@ -2,9 +2,9 @@
 use Rattle.std.specs.Prelude.{◌≡◌, ℕ, ◌+◌, ◌∷◌, length, map, codes, Some}
 use Rattle.shr_base.specs.declared.replies.Answered.{Answered}
 use Rattle.shr_base.specs.declared.scripts.Script.{Script}
-use Rattle.shr_report.specs.declared.report.Report.{Report}
-use Rattle.shr_report.specs.Parts.{answer_at, answers_of, commands_of, sweeps_of}
-use Rattle.shr_report.specs.Swept.{IsSweepReply, sweep_serial}
+use Rattle.shr_laws.specs.declared.report.Report.{Report}
+use Rattle.shr_laws.specs.Parts.{answer_at, answers_of, commands_of, sweeps_of}
+use Rattle.shr_laws.specs.Swept.{IsSweepReply, sweep_serial}
 
 -- the report has the version and the sizes of the script
 pub record HasSizes (s : Script) (r : Report) : Type 0 where

@@ -2,8 +2,8 @@
 use Rattle.std.specs.Prelude.{◌≡◌, ℕ, ◌<◌, Some}
 use Rattle.shr_base.specs.declared.places.Place.{Place}
 use Rattle.shr_base.specs.declared.scripts.Script.{Script}
-use Rattle.shr_report.specs.declared.report.Report.{Report}
-use Rattle.shr_report.specs.Parts.{at, cited_at, serial_of}
+use Rattle.shr_laws.specs.declared.report.Report.{Report}
+use Rattle.shr_laws.specs.Parts.{at, cited_at, serial_of}
 use Rattle.shr_audit_replies.specs.Heads.{HasNames, HasPaths, HasPoolNames, HasSizes, AllHaveAnswers, AreLastSwept}
 use Rattle.shr_audit_replies.specs.Answers.{AreAnswered}
 use Rattle.shr_audit_replies.specs.Cited.{AreEntriesCited}

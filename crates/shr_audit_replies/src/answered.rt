@@ -6,7 +6,7 @@ ghost use Rattle.shr_base.specs.declared.replies.Answered.{Answered};
 ghost use Rattle.shr_base.specs.declared.scripts.Command.{Command};
 ghost use Rattle.shr_audit_case.specs.Each.{AnswersInParts};
 ghost use Rattle.shr_audit_case.specs.Places.{AreInOrder};
-ghost use Rattle.shr_report.specs.Parts.{command_at, id_found, journals_of, parents_of, serial_of};
+ghost use Rattle.shr_laws.specs.Parts.{command_at, id_found, journals_of, parents_of, serial_of};
 ghost use Rattle.shr_audit_replies.specs.Answers.{AreAnswered, IsAnswered, MayReply};
 
 use crate::citing::may_held;
@@ -15,7 +15,7 @@ use crate::rows::may_unheld;
 use shr_base::ends::WorkerPart;
 use shr_base::replies::Answered;
 use shr_base::scripts::{Command, Script};
-use shr_report::report::Report;
+use shr_laws::report::Report;
 
 // Whether a command may have this answer.
 fn may_answer(

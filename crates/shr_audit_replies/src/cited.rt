@@ -6,7 +6,7 @@ ghost use Rattle.shr_base.specs.declared.journals.Entry.{Entry};
 ghost use Rattle.shr_audit_case.specs.Each.{EachFirst};
 ghost use Rattle.shr_audit_case.specs.Places.{AreInOrder};
 ghost use Rattle.shr_model.specs.Tenants.{by_of};
-ghost use Rattle.shr_report.specs.Parts.{at, cited_at, cited_by};
+ghost use Rattle.shr_laws.specs.Parts.{at, cited_at, cited_by};
 ghost use Rattle.shr_audit_replies.specs.Cited.{AreEntriesCited, IsCited};
 
 use shr_audit_case::places::is_first;
@@ -15,7 +15,7 @@ use shr_base::ends::PlaceEnd;
 use shr_base::journals::Entry;
 use shr_base::places::{At, Place, Serial};
 use shr_base::replies::Reply;
-use shr_report::report::Report;
+use shr_laws::report::Report;
 
 /// The command of a tenant's entry. Our own.
 pub fn by_of(entry: &Entry) -> Option<Serial>

@@ -10,8 +10,8 @@ ghost use Rattle.shr_base.specs.declared.scripts.Act.TheVariants.{Del, Get, SetP
 ghost use Rattle.shr_base.specs.declared.scripts.Command.TheVariants.{Isolate, On, Put};
 ghost use Rattle.shr_model.specs.Families.{Family};
 ghost use Rattle.shr_audit_case.specs.Places.{AreInOrder};
-ghost use Rattle.shr_report.specs.Parts.{journals_of, serial_of};
-ghost use Rattle.shr_report.specs.ReplyTable.{Cites, IsReply};
+ghost use Rattle.shr_laws.specs.Parts.{journals_of, serial_of};
+ghost use Rattle.shr_laws.specs.ReplyTable.{Cites, IsReply};
 ghost use Rattle.shr_audit_replies.specs.Answers.{MayReply};
 
 use crate::entries::{Tenant, is_add, is_drop, is_look, is_pin, tenant_of};
@@ -21,7 +21,7 @@ use shr_base::places::At;
 use shr_base::replies::{Reply, Spent};
 use shr_base::scripts::{Act, Command};
 use shr_base::text::Text;
-use shr_report::report::Report;
+use shr_laws::report::Report;
 
 // The entry that a reply cites, if it is of the id that was found and of the command's node.
 fn entry_cited(report: &Report, tenant: Tenant, at: At) -> Option<&Entry>

@@ -3,7 +3,7 @@
 ghost use Rattle.std.specs.Prelude.{◌≡◌};
 ghost use Rattle.std.specs.Bool.{Decides};
 ghost use Rattle.shr_base.specs.declared.journals.Entry.TheVariants.{Add, Drop, Look, Pin};
-ghost use Rattle.shr_report.specs.Parts.{serial_of};
+ghost use Rattle.shr_laws.specs.Parts.{serial_of};
 
 use shr_base::journals::{DropKind, Entry};
 use shr_base::places::{Serial, Target};

@@ -2,14 +2,14 @@
 
 ghost use Rattle.std.specs.Prelude.{◌≡◌, ◌∷◌, codes, map};
 ghost use Rattle.std.specs.Bool.{Decides};
-ghost use Rattle.shr_report.specs.Swept.{IsSweepReply};
+ghost use Rattle.shr_laws.specs.Swept.{IsSweepReply};
 ghost use Rattle.shr_audit_replies.specs.Heads.{AreLastSwept, HasAnswers, HasNames, HasPaths, HasPoolNames, HasSizes, AllHaveAnswers, IsLastSwept};
 
 use crate::numbers::{answer_of, count_answers, count_commands, count_sweeps};
 use shr_base::replies::Reply;
 use shr_base::scripts::{CacheDecl, GroupDecl, PoolDecl, Script};
 use shr_base::text::Text;
-use shr_report::report::Report;
+use shr_laws::report::Report;
 
 /// Whether a report has the version and the sizes of a script. Our own.
 pub fn has_sizes(script: &Script, report: &Report) -> bool

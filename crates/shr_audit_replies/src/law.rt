@@ -11,7 +11,7 @@ use crate::heads::{are_last_swept, has_names, has_paths, has_pool_names, has_siz
 use crate::rising::are_journals_rising;
 use shr_base::memory::Memory;
 use shr_base::scripts::Script;
-use shr_report::report::Report;
+use shr_laws::report::Report;
 use std::alloc::Global;
 
 /// Whether a report has at its head what the script says. Our own.

@@ -1,11 +1,11 @@
 //! Commands and answers by the numbers of their workers and their own.
 
 ghost use Rattle.std.specs.Prelude.{◌≡◌, length, option_copied};
-ghost use Rattle.shr_report.specs.Parts.{answer_at, answers_of, command_at, commands_of, serial_of, sweeps_of};
+ghost use Rattle.shr_laws.specs.Parts.{answer_at, answers_of, command_at, commands_of, serial_of, sweeps_of};
 
 use shr_base::replies::Answered;
 use shr_base::scripts::{Command, Script};
-use shr_report::report::Report;
+use shr_laws::report::Report;
 
 /// How many answers a worker has, none past the last part. Our own.
 pub fn count_answers(report: &Report, worker: usize) -> usize

@@ -13,7 +13,7 @@ use shr_base::ends::PlaceEnd;
 use shr_base::journals::Entry;
 use shr_base::memory::Memory;
 use shr_base::places::Serial;
-use shr_report::report::Report;
+use shr_laws::report::Report;
 use std::alloc::Global;
 
 /// The last entry of a worker's: the number of its journal, from 1, and the number of the command

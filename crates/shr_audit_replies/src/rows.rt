@@ -7,7 +7,7 @@ ghost use Rattle.shr_base.specs.declared.places.Target.{Target};
 ghost use Rattle.shr_base.specs.declared.scripts.Act.TheVariants.{Del, Get, SetPin};
 ghost use Rattle.shr_base.specs.declared.scripts.Command.TheVariants.{Balance, Grab, Isolate, MkGroup, Offline, On, Put, Register, Release, Shrink, Unregister};
 ghost use Rattle.shr_model.specs.Families.{Family};
-ghost use Rattle.shr_report.specs.ReplyTable.{IsReply};
+ghost use Rattle.shr_laws.specs.ReplyTable.{IsReply};
 ghost use Rattle.shr_audit_replies.specs.Answers.{MayReply};
 
 use shr_base::replies::{Reply, Spent};

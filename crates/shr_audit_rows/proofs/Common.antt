@@ -27,8 +27,8 @@ pub use Rattle.shr_model.specs.Charges.{is_by, ops_by, ups}
 pub use Rattle.shr_model.specs.Commands.{decl_named}
 pub use Rattle.shr_model.specs.Pool.{decl_after, id_of, is_live_below, is_live_decl, lowest_idle}
 pub use Rattle.shr_model.specs.TreeJournal.{done_of, is_done, is_made, is_making, is_undone_child, made_of, undone_child}
-pub use Rattle.shr_report.specs.Parts.{EachAnswer, EachAttempt, EachWalk, answer_at, answers_in, answers_of, command_at, commands_in, script_hierarchy, later_of, limit_of, parents_of, reply_at, serial_of, uses_at}
-pub use Rattle.shr_report.specs.declared.report.Report.{Report}
+pub use Rattle.shr_laws.specs.Parts.{EachAnswer, EachAttempt, EachWalk, answer_at, answers_in, answers_of, command_at, commands_in, script_hierarchy, later_of, limit_of, parents_of, reply_at, serial_of, uses_at}
+pub use Rattle.shr_laws.specs.declared.report.Report.{Report}
 pub use Rattle.shr_audit_rows.specs.Asked.{AddsSo, AreAllSo, IsAskedSo, IsSaid, IsAskedRight, IsSoIfAsked, asked_at, asked_in}
 pub use Rattle.shr_audit_rows.specs.Law.{AreEntriesCaused, AreWalksCaused}
 pub use Rattle.shr_audit_rows.specs.Moments.{AreMoments, done_in, group_made_in, moment_noted}

@@ -3,7 +3,7 @@ use Rattle.shr_audit_rows.proofs.Common.{◌≡◌, ℕ, ◌+◌, ◌<◌, ◌�
 use Rattle.std.specs.List.{All}
 use Rattle.std.specs.List.Sorted.{IsNonDecreasingBy}
 use Rattle.std.proofs.lemmas.List.Sorted.{All-permutation, IsPermutation-sym}
-use Rattle.shr_report.specs.Causes.{IsCached, IsFull, IsUncached}
+use Rattle.shr_laws.specs.Causes.{IsCached, IsFull, IsUncached}
 use Rattle.shr_audit_rows.specs.declared.asked.Said.{Said}
 use Rattle.shr_audit_rows.specs.declared.asked.Said.TheVariants.{Uncached, Cached, Full}
 use Rattle.shr_model.proofs.Booleans.{not_true}

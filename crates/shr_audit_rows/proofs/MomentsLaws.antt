@@ -4,7 +4,7 @@ use Rattle.std.specs.List.{position_from, range_with_len}
 use Rattle.shr_base.specs.declared.journals.TreeEntry.{TreeEntry}
 use Rattle.shr_base.specs.declared.journals.TreeEntry.TheVariants.{Begin, Done, Made}
 use Rattle.shr_model.specs.Groups.{is_child, is_later}
-use Rattle.shr_report.specs.Causes.{IsInTheWay}
+use Rattle.shr_laws.specs.Causes.{IsInTheWay}
 use Rattle.shr_audit_rows.specs.declared.children.Moments.{Moments}
 use Rattle.std.proofs.lemmas.Bool.{le-ltb, lt-ltb}
 use Rattle.std.proofs.Math.Bool.{or-true, or-false}

@@ -7,9 +7,9 @@ use Rattle.shr_base.specs.declared.scripts.Command.{Command}
 use Rattle.shr_base.specs.declared.scripts.Script.{Script}
 use Rattle.shr_audit_formed.specs.Each.{EachItem}
 use Rattle.shr_model.specs.Commands.{decl_named}
-use Rattle.shr_report.specs.declared.report.Report.{Report}
-use Rattle.shr_report.specs.Causes.{IsCached, IsFull, IsUncached}
-use Rattle.shr_report.specs.Parts.{command_at, reply_at, serial_of}
+use Rattle.shr_laws.specs.declared.report.Report.{Report}
+use Rattle.shr_laws.specs.Causes.{IsCached, IsFull, IsUncached}
+use Rattle.shr_laws.specs.Parts.{command_at, reply_at, serial_of}
 use Rattle.shr_audit_rows.specs.declared.asked.Asked.{Asked}
 use Rattle.shr_audit_rows.specs.declared.asked.Said.{Said}
 use Rattle.shr_audit_rows.specs.declared.asked.Said.TheVariants.{Uncached, Cached, Full}

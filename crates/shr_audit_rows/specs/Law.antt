@@ -1,8 +1,8 @@
 -- The law on causes, in the parts in which it is tested.
 use Rattle.shr_base.specs.declared.scripts.Script.{Script}
-use Rattle.shr_report.specs.declared.report.Report.{Report}
-use Rattle.shr_report.specs.Freshness.{IsFresh}
-use Rattle.shr_report.specs.Parts.{EachAttempt, EachEntry, EachWalk}
+use Rattle.shr_laws.specs.declared.report.Report.{Report}
+use Rattle.shr_laws.specs.Freshness.{IsFresh}
+use Rattle.shr_laws.specs.Parts.{EachAttempt, EachEntry, EachWalk}
 use Rattle.shr_audit_reasons.specs.Registrations.{AreRegistrationsCaused}
 use Rattle.shr_audit_reasons.specs.Trees.{AreBeginsCaused, AreDonesCaused, AreMadesCaused}
 use Rattle.shr_audit_reasons.specs.Walks.{CitesBegin, IsDrainedRightly, IsWornRightly}

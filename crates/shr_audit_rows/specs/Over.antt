@@ -3,7 +3,7 @@ use Rattle.std.specs.Prelude.{◌≡◌, ℕ, pos, ◌≤◌}
 use Rattle.std.specs.Option.{IsSomeAnd}
 use Rattle.shr_base.specs.declared.places.Serial.{Serial}
 use Rattle.shr_base.specs.declared.scripts.Script.{Script}
-use Rattle.shr_report.specs.Parts.{limit_of}
+use Rattle.shr_laws.specs.Parts.{limit_of}
 use Rattle.shr_audit_rows.specs.declared.tried.Refused.{Refused}
 use Rattle.shr_audit_rows.specs.declared.tried.Tried.{Tried}
 

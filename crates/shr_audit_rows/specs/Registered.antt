@@ -1,7 +1,7 @@
 -- Entries of the journal of registrations that a reply made.
 use Rattle.std.specs.Prelude.{◌≡◌, ℕ, slice_get, Some}
 use Rattle.shr_base.specs.declared.journals.PoolEntry.TheVariants.{Registered}
-use Rattle.shr_report.specs.declared.report.Report.{Report}
+use Rattle.shr_laws.specs.declared.report.Report.{Report}
 
 -- an entry registered a declaration with an id
 abbrev pub EntryRegisters : Report → ℕ → ℕ → ℕ → Type 0

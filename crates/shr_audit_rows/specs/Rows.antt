@@ -10,10 +10,10 @@ use Rattle.shr_base.specs.declared.scripts.Command.{Command}
 use Rattle.shr_base.specs.declared.scripts.Script.{Script}
 use Rattle.shr_base.specs.declared.scripts.WorkerScript.{WorkerScript}
 use Rattle.shr_model.specs.Commands.{decl_named, group_named}
-use Rattle.shr_report.specs.declared.report.Report.{Report}
-use Rattle.shr_report.specs.Causes.{IsInTheWay, IsOver, IsUnmade, StandsInTree}
-use Rattle.shr_report.specs.Parts.{answer_at, command_at, serial_of}
-use Rattle.shr_report.specs.ReplyTable.{HasCause, IsUsedUp, group_met}
+use Rattle.shr_laws.specs.declared.report.Report.{Report}
+use Rattle.shr_laws.specs.Causes.{IsInTheWay, IsOver, IsUnmade, StandsInTree}
+use Rattle.shr_laws.specs.Parts.{answer_at, command_at, serial_of}
+use Rattle.shr_laws.specs.ReplyTable.{HasCause, IsUsedUp, group_met}
 use Rattle.shr_audit_reasons.specs.Counted.{IsCountOf}
 use Rattle.shr_audit_rows.specs.declared.rows.Notes.{Notes}
 use Rattle.shr_audit_rows.specs.Moments.{AreMoments}

@@ -6,7 +6,7 @@ use Rattle.std.specs.HashMap.{get, HashMap}
 use Rattle.shr_base.specs.declared.journals.UseStep.{UseStep}
 use Rattle.shr_base.specs.declared.places.Serial.{Serial}
 use Rattle.shr_model.specs.Charges.{is_by, ops_by, ups}
-use Rattle.shr_report.specs.Parts.{serial_of}
+use Rattle.shr_laws.specs.Parts.{serial_of}
 use Rattle.shr_audit_rows.specs.declared.tried.Tried.{Tried}
 
 -- a command in a group by one number

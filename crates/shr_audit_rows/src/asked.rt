@@ -2,7 +2,7 @@
 
 ghost use Rattle.std.specs.Prelude.{◌≡◌, ℕ, ◌<◌, ◌++◌, length, option_to_list, IfOk, OnOk};
 ghost use Rattle.shr_model.specs.Commands.{decl_named};
-ghost use Rattle.shr_report.specs.Parts.{answers_of};
+ghost use Rattle.shr_laws.specs.Parts.{answers_of};
 ghost use Rattle.shr_audit_rows.specs.Asked.{AddsSo, AreAllSo, IsSoIfAsked, asked_at, asked_in};
 
 use crate::named::decl_named;
@@ -10,7 +10,7 @@ use shr_audit_replies::numbers::{answer_of, command_of, count_answers};
 use shr_base::memory::Memory;
 use shr_base::replies::Reply;
 use shr_base::scripts::{Command, Script};
-use shr_report::report::Report;
+use shr_laws::report::Report;
 use std::alloc::Global;
 
 /// What a reply says of a declaration. Our own.

@@ -4,8 +4,8 @@ ghost use Rattle.std.specs.Prelude.{◌≡◌, ◌<◌, ◌≤◌, ◌&&◌, ◌
 ghost use Rattle.std.specs.Bool.{Decides};
 ghost use Rattle.shr_model.specs.Groups.{is_child};
 ghost use Rattle.shr_model.specs.TreeJournal.{is_undone_child, undone_child};
-ghost use Rattle.shr_report.specs.Causes.{IsInTheWay};
-ghost use Rattle.shr_report.specs.Parts.{script_hierarchy};
+ghost use Rattle.shr_laws.specs.Causes.{IsInTheWay};
+ghost use Rattle.shr_laws.specs.Parts.{script_hierarchy};
 ghost use Rattle.shr_audit_rows.specs.Moments.{AreMoments, done_in, group_made_in, moment_noted};
 
 use crate::groups::is_later;
@@ -13,7 +13,7 @@ use shr_audit_case::serials::parents_of;
 use shr_base::journals::TreeEntry;
 use shr_base::memory::Memory;
 use shr_base::scripts::Script;
-use shr_report::report::Report;
+use shr_laws::report::Report;
 use std::alloc::Global;
 
 /// How many entries of the journal of the tree stand before the one by which each group was made,

@@ -5,12 +5,12 @@ ghost use Rattle.std.specs.Bool.{Decides};
 ghost use Rattle.std.specs.Option.{IsSomeAnd};
 ghost use Rattle.shr_base.specs.declared.journals.TreeEntry.TheVariants.{Begin, Done, Made};
 ghost use Rattle.shr_model.specs.Groups.{is_later};
-ghost use Rattle.shr_report.specs.Causes.{IsUnmade, StandsInTree};
-ghost use Rattle.shr_report.specs.Parts.{later_of};
+ghost use Rattle.shr_laws.specs.Causes.{IsUnmade, StandsInTree};
+ghost use Rattle.shr_laws.specs.Parts.{later_of};
 
 use shr_audit_reasons::tree::{is_begin_of, is_done_of, is_made_of};
 use shr_base::scripts::Script;
-use shr_report::report::Report;
+use shr_laws::report::Report;
 
 /// Whether an entry of the journal of the tree is the Begin of the group, if there is one. Our own.
 pub fn is_begin_there(report: &Report, group: Option<u16>, entry: u32) -> bool

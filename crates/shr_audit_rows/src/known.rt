@@ -12,7 +12,7 @@ use crate::asked::{Asked, Said, asked_of};
 use crate::pooled::Pooled;
 use shr_base::memory::Memory;
 use shr_base::scripts::Script;
-use shr_report::report::Report;
+use shr_laws::report::Report;
 use std::alloc::Global;
 
 // Whether neither of two is so.

@@ -17,7 +17,7 @@ use shr_audit_reasons::trees::{are_begins_caused, are_dones_caused, are_mades_ca
 use shr_audit_reasons::walks::walks_begin;
 use shr_base::memory::Memory;
 use shr_base::scripts::Script;
-use shr_report::report::Report;
+use shr_laws::report::Report;
 use std::alloc::Global;
 
 // Whether walks, and worn attempts and passes, have what they came from.

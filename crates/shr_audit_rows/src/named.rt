@@ -3,8 +3,8 @@
 ghost use Rattle.std.specs.Prelude.{◌≡◌};
 ghost use Rattle.shr_model.specs.Commands.{decl_named, group_named};
 ghost use Rattle.shr_model.specs.Groups.{parent_of};
-ghost use Rattle.shr_report.specs.Parts.{parents_of};
-ghost use Rattle.shr_report.specs.ReplyTable.{group_met};
+ghost use Rattle.shr_laws.specs.Parts.{parents_of};
+ghost use Rattle.shr_laws.specs.ReplyTable.{group_met};
 
 use shr_base::scripts::{Command, Script};
 

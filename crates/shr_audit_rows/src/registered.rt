@@ -5,7 +5,7 @@ ghost use Rattle.std.specs.Option.{IsSomeAnd};
 ghost use Rattle.shr_audit_rows.specs.Registered.{EntryRegisters};
 
 use shr_base::journals::PoolEntry;
-use shr_report::report::Report;
+use shr_laws::report::Report;
 
 /// Whether an entry registered the declaration with an id, if there is one. Our own.
 pub fn is_registered(report: &Report, decl: Option<u8>, id: u16, entry: u32) -> bool

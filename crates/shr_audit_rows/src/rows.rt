@@ -4,8 +4,8 @@ ghost use Rattle.std.specs.Prelude.{ℕ, ◌<◌, length, IfOk};
 ghost use Rattle.std.specs.Bool.{Decides};
 ghost use Rattle.std.specs.Option.{IsSomeAnd};
 ghost use Rattle.shr_audit_case.specs.Places.{AreInOrder};
-ghost use Rattle.shr_report.specs.Causes.{IsInTheWay};
-ghost use Rattle.shr_report.specs.Parts.{EachAnswer};
+ghost use Rattle.shr_laws.specs.Causes.{IsInTheWay};
+ghost use Rattle.shr_laws.specs.Parts.{EachAnswer};
 ghost use Rattle.shr_audit_rows.specs.Rows.{AreFew, AreRowNotes, HasCauseButEnds, HasCountCause, HasStateCause, IsCausedAt, IsOverSo};
 
 use crate::children::Moments;
@@ -21,7 +21,7 @@ use shr_base::memory::Memory;
 use shr_base::places::Serial;
 use shr_base::replies::Reply;
 use shr_base::scripts::{Command, Script};
-use shr_report::report::Report;
+use shr_laws::report::Report;
 use std::alloc::Global;
 
 /// What is noted once of a script and a report. Our own.

@@ -5,7 +5,7 @@ ghost use Rattle.std.specs.Bool.{Decides};
 ghost use Rattle.std.specs.Option.{IsSomeAnd};
 ghost use Rattle.std.specs.HashMap.{get};
 ghost use Rattle.shr_base.specs.declared.journals.UseStep.{UseStep};
-ghost use Rattle.shr_report.specs.Causes.{IsOver};
+ghost use Rattle.shr_laws.specs.Causes.{IsOver};
 ghost use Rattle.shr_audit_rows.specs.Over.{AreFourteen, IsFullAt, IsSaidOf};
 ghost use Rattle.shr_audit_rows.specs.Tried.{AreTries, IsTriedKeyed, IsLastNoted, IsUntried, tried_key, ups_with};
 
@@ -13,7 +13,7 @@ use shr_base::journals::UseStep;
 use shr_base::memory::Memory;
 use shr_base::places::Serial;
 use shr_base::scripts::Script;
-use shr_report::report::Report;
+use shr_laws::report::Report;
 use std::alloc::Global;
 use std::collections::HashMap;
 

@@ -4,7 +4,7 @@ ghost use Rattle.std.specs.Prelude.{◌<◌, length};
 ghost use Rattle.std.specs.Bool.{Decides};
 ghost use Rattle.shr_audit_reasons.specs.Counted.{IsCountOf};
 ghost use Rattle.shr_audit_case.specs.Places.{AreInOrder};
-ghost use Rattle.shr_report.specs.ReplyTable.{IsUsedUp};
+ghost use Rattle.shr_laws.specs.ReplyTable.{IsUsedUp};
 
 use shr_audit_reasons::counted::Counted;
 use shr_audit_reasons::pools::is_pool_spent;
@@ -12,7 +12,7 @@ use shr_audit_reasons::spent::is_spent;
 use shr_base::places::Serial;
 use shr_base::replies::Spent;
 use shr_base::scripts::{Command, Script};
-use shr_report::report::Report;
+use shr_laws::report::Report;
 
 /// Whether what a command found used up was: the journal of its pool, or a counter of its worker.
 /// Our own.

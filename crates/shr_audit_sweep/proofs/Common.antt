@@ -10,7 +10,7 @@ pub use Rattle.shr_base.specs.declared.scripts.Sweep.{Sweep}
 pub use Rattle.shr_base.specs.Walks.{WalkRecord}
 pub use Rattle.shr_audit_formed.proofs.Eachs.{all_of, clash, each_in}
 pub use Rattle.shr_audit_formed.specs.Each.{Adjacent, EachItem, IsWorkerCommand}
-pub use Rattle.shr_report.specs.Parts.{answer_at, commands_of, parents_of, reply_at, serial_of, walks_in}
-pub use Rattle.shr_report.specs.Swept.{IsSweepRight, IsSweepWalk, IsSwept, IsSweptOut, all_sweep_walks, sweep_serial, sweep_walks}
-pub use Rattle.shr_report.specs.declared.report.Report.{Report}
+pub use Rattle.shr_laws.specs.Parts.{answer_at, commands_of, parents_of, reply_at, serial_of, walks_in}
+pub use Rattle.shr_laws.specs.Swept.{IsSweepRight, IsSweepWalk, IsSwept, IsSweptOut, all_sweep_walks, sweep_serial, sweep_walks}
+pub use Rattle.shr_laws.specs.declared.report.Report.{Report}
 pub use Rattle.shr_audit_sweep.specs.Marks.{AreMarked, AreWalkedOnce, AreSweptOnce, IsGroupMarked, IsSweptWithin, job_index, times_in}

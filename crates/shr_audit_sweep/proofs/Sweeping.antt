@@ -2,7 +2,7 @@
 use Rattle.shr_audit_sweep.proofs.Common.{◌≡◌, ℕ, ◌<◌, ◌≤◌, Bool, true, false, cond, List, [], ◌∷◌, length, get_or, Some, refl, sym, ap, ◌∙◌, ◌==◌, ◌&&◌, slice_get, Decides, WorkerPart, Script, Sweep, WalkRecord, Report, IsSweepWalk, IsSwept, sweep_serial, sweep_walks, EachItem, clash, suc, Option, None, filter, is_some, not, commands_of, serial_of, walks_in, Adjacent, IsWorkerCommand, all_of, each_in}
 use Rattle.shr_base.specs.declared.replies.Answered.{Answered}
 use Rattle.shr_model.specs.Commands.{is_serial}
-use Rattle.shr_report.specs.WellFormed.{IsWellFormed}
+use Rattle.shr_laws.specs.WellFormed.{IsWellFormed}
 use Rattle.shr_audit_formed.proofs.WellParts.{parts_of}
 use Rattle.shr_audit_sweep.specs.Swept.{IsSweepTold}
 use Rattle.shr_audit_passes.proofs.Answered.{here_at, same_test}

@@ -2,9 +2,9 @@
 use Rattle.std.specs.Prelude.{◌≡◌, ℕ, ◌+◌, ◌*◌, ◌<◌, ◌≤◌, ◌&&◌, ◌==◌, Bool, true, false, nat_lt, List, length, count_by, get_or}
 use Rattle.shr_base.specs.declared.scripts.Script.{Script}
 use Rattle.shr_base.specs.Walks.{WalkRecord}
-use Rattle.shr_report.specs.declared.report.Report.{Report}
-use Rattle.shr_report.specs.Parts.{parents_of}
-use Rattle.shr_report.specs.Swept.{all_sweep_walks, times_swept}
+use Rattle.shr_laws.specs.declared.report.Report.{Report}
+use Rattle.shr_laws.specs.Parts.{parents_of}
+use Rattle.shr_laws.specs.Swept.{all_sweep_walks, times_swept}
 
 -- where a group on a node has its mark
 abbrev pub job_index : ℕ → ℕ → ℕ → ℕ

@@ -7,9 +7,9 @@ use Rattle.shr_base.specs.declared.scripts.Script.{Script}
 use Rattle.shr_base.specs.declared.scripts.Sweep.{Sweep}
 use Rattle.shr_base.specs.Walks.{WalkRecord}
 use Rattle.shr_model.specs.Walks.{freed_told}
-use Rattle.shr_report.specs.declared.report.Report.{Report}
-use Rattle.shr_report.specs.Parts.{answer_at, reply_at}
-use Rattle.shr_report.specs.Swept.{IsSwept, IsSweepReply, IsSweptOut, freed_swept, sweep_serial, sweep_walks}
+use Rattle.shr_laws.specs.declared.report.Report.{Report}
+use Rattle.shr_laws.specs.Parts.{answer_at, reply_at}
+use Rattle.shr_laws.specs.Swept.{IsSwept, IsSweepReply, IsSweptOut, freed_swept, sweep_serial, sweep_walks}
 
 -- a reply says how many walks these are, or that memory was short, and what they freed
 pub record IsSweepTold (walks : List WalkRecord) (x : Reply) : Type 0 where

@@ -3,16 +3,16 @@
 ghost use Rattle.std.specs.Prelude.{◌≡◌, ℕ, ◌<◌, length, option_copied};
 ghost use Rattle.std.specs.Bool.{Decides};
 ghost use Rattle.std.specs.Option.{IsSomeAnd};
-ghost use Rattle.shr_report.specs.Parts.{answer_at, reply_at};
-ghost use Rattle.shr_report.specs.Swept.{IsSwept, IsSweptOut, sweep_serial, sweep_walks};
-ghost use Rattle.shr_report.specs.WellFormed.{IsWellFormed};
+ghost use Rattle.shr_laws.specs.Parts.{answer_at, reply_at};
+ghost use Rattle.shr_laws.specs.Swept.{IsSwept, IsSweptOut, sweep_serial, sweep_walks};
+ghost use Rattle.shr_laws.specs.WellFormed.{IsWellFormed};
 ghost use Rattle.shr_audit_sweep.specs.Swept.{HaveSweepAnswers, AreSweptOut, IsSweepTold};
 
 use crate::walks::{are_sweep_walks, count_commands, have_freed, sweep_walks};
 use shr_base::replies::{Answered, Reply};
 use shr_base::scripts::{Script, Sweep};
 use shr_base::walks::WalkRecord;
-use shr_report::report::Report;
+use shr_laws::report::Report;
 
 // Whether a reply says how many walks these are, or that memory was short, and what they freed.
 fn is_told(reply: &Reply, walks: &[WalkRecord]) -> bool

@@ -4,16 +4,16 @@ ghost use Rattle.std.specs.Prelude.{◌≡◌, ℕ, ◌+◌, ◌<◌, ◌*◌, �
 ghost use Rattle.std.specs.Bool.{Decides};
 ghost use Rattle.shr_base.specs.Walks.{WalkRecord};
 ghost use Rattle.shr_audit_formed.specs.Each.{EachItem};
-ghost use Rattle.shr_report.specs.Parts.{parents_of};
-ghost use Rattle.shr_report.specs.Swept.{all_sweep_walks, sweep_walks};
-ghost use Rattle.shr_report.specs.WellFormed.{IsWellFormed};
+ghost use Rattle.shr_laws.specs.Parts.{parents_of};
+ghost use Rattle.shr_laws.specs.Swept.{all_sweep_walks, sweep_walks};
+ghost use Rattle.shr_laws.specs.WellFormed.{IsWellFormed};
 ghost use Rattle.shr_audit_sweep.specs.Marks.{AreMarked, AreWalkedOnce, AreSweptOnce, IsGroupMarked, IsSweptWithin, job_index};
 
 use crate::walks::sweep_walks;
 use shr_base::memory::Memory;
 use shr_base::scripts::Script;
 use shr_base::walks::WalkRecord;
-use shr_report::report::Report;
+use shr_laws::report::Report;
 use std::alloc::Global;
 
 // So many marks, none of which is set.

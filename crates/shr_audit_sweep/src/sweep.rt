@@ -2,15 +2,15 @@
 
 ghost use Rattle.std.specs.Prelude.{◌≤◌, length, IfOk};
 ghost use Rattle.std.specs.Bool.{Decides};
-ghost use Rattle.shr_report.specs.Parts.{parents_of};
-ghost use Rattle.shr_report.specs.Swept.{IsSweepLawful, IsSweepRight};
-ghost use Rattle.shr_report.specs.WellFormed.{IsWellFormed};
+ghost use Rattle.shr_laws.specs.Parts.{parents_of};
+ghost use Rattle.shr_laws.specs.Swept.{IsSweepLawful, IsSweepRight};
+ghost use Rattle.shr_laws.specs.WellFormed.{IsWellFormed};
 
 use crate::answers::{are_answered, are_swept_out};
 use crate::marks::are_walked;
 use shr_base::memory::Memory;
 use shr_base::scripts::{Script, Sweep};
-use shr_report::report::Report;
+use shr_laws::report::Report;
 use std::alloc::Global;
 
 // Whether the sweep of a script is right.

@@ -5,14 +5,14 @@ ghost use Rattle.std.specs.Bool.{Decides};
 ghost use Rattle.shr_base.specs.Walks.{WalkRecord};
 ghost use Rattle.shr_audit_formed.specs.Each.{EachItem};
 ghost use Rattle.shr_model.specs.Walks.{freed_told};
-ghost use Rattle.shr_report.specs.Parts.{commands_of};
-ghost use Rattle.shr_report.specs.Swept.{IsSweepWalk, sweep_walks};
-ghost use Rattle.shr_report.specs.WellFormed.{IsWellFormed};
+ghost use Rattle.shr_laws.specs.Parts.{commands_of};
+ghost use Rattle.shr_laws.specs.Swept.{IsSweepWalk, sweep_walks};
+ghost use Rattle.shr_laws.specs.WellFormed.{IsWellFormed};
 
 use shr_audit_passes::commands::walks_of;
 use shr_base::scripts::{Script, Sweep};
 use shr_base::walks::{WalkAnswer, WalkRecord};
-use shr_report::report::Report;
+use shr_laws::report::Report;
 
 /// How many commands a worker has; none past the last worker. Our own.
 pub(crate) fn count_commands(script: &Script, worker: usize) -> usize

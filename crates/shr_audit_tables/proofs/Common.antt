@@ -23,14 +23,15 @@ pub use Rattle.shr_audit_formed.proofs.Eachs.{all_of, below_of, each_all, each_i
 pub use Rattle.shr_audit_formed.specs.Each.{EachItem}
 pub use Rattle.shr_model.proofs.Lists.{added_to, all_front, all_right, flat_all, flat_one, map_end, some_at}
 pub use Rattle.shr_model.specs.Attempts.{number_of, pass_of}
-pub use Rattle.shr_model.specs.Deferred.{amount_at, deferred_word, sum_at}
+pub use Rattle.shr_model.specs.Amounts.{amount_at, sum_at}
+pub use Rattle.shr_model.specs.Deferred.{deferred_word}
 pub use Rattle.shr_model.specs.Places.{is_place}
 pub use Rattle.shr_model.specs.Pool.{IsNextPool, IsPoolJournal, is_live, last_number, phase_of}
-pub use Rattle.shr_report.specs.Deferred.{IsCarryRight, IsDeferredLawful, amount_in}
-pub use Rattle.shr_report.specs.Numbers.{HasNumbers, IsAmountNumbered, IsAnsweredNumbered, IsAttemptNumbered, IsCarryNumbered, IsFindNumbered, IsOutcomeNumbered, IsPartNumbered, IsWalkNumbered}
-pub use Rattle.shr_report.specs.Parts.{carries_in, decls_on, journal_of, journals_of, lookups_at, parents_of}
-pub use Rattle.shr_report.specs.WellFormed.{IsAmountWell, IsBefore, IsCarryBefore, IsNumbered, IsPlaceBefore, IsWellFormed}
-pub use Rattle.shr_report.specs.declared.report.Report.{Report}
+pub use Rattle.shr_laws.specs.Deferred.{IsCarryRight, IsDeferredLawful, amount_in}
+pub use Rattle.shr_laws.specs.Numbers.{HasNumbers, IsAmountNumbered, IsAnsweredNumbered, IsAttemptNumbered, IsCarryNumbered, IsFindNumbered, IsOutcomeNumbered, IsPartNumbered, IsWalkNumbered}
+pub use Rattle.shr_laws.specs.Parts.{carries_in, decls_on, journal_of, journals_of, lookups_at, parents_of}
+pub use Rattle.shr_laws.specs.WellFormed.{IsAmountWell, IsBefore, IsCarryBefore, IsNumbered, IsPlaceBefore, IsWellFormed}
+pub use Rattle.shr_laws.specs.declared.report.Report.{Report}
 pub use Rattle.shr_audit_case.proofs.Gaining.{gains_more}
 pub use Rattle.shr_audit_case.specs.Deferred.{GainsAtEach, IsNarrow, carried_from, carried_to, deferred_key}
 pub use Rattle.shr_audit_case.specs.Moves.{IsSettled, sum_down_at, sum_up_at}

@@ -3,7 +3,7 @@ use Rattle.shr_audit_tables.proofs.Common.{◌≡◌, ◌≢◌, ℕ, ◌+◌, �
 use Rattle.shr_base.specs.declared.replies.Found.{Found}
 use Rattle.shr_base.specs.declared.walks.Outcome.{Outcome}
 use Rattle.shr_base.specs.declared.walks.Outcome.TheVariants as outcome
-use Rattle.shr_report.specs.Lookups.{found_number, found_numbers, tried_numbers}
+use Rattle.shr_laws.specs.Lookups.{found_number, found_numbers, tried_numbers}
 
 -- a draw is of this id, with this number
 of_draw : ℕ → ℕ → ℕ → Bool

@@ -9,7 +9,7 @@ pub use Rattle.shr_base.specs.declared.scripts.Script.{Script}
 pub use Rattle.shr_base.specs.Walks.{WalkRecord}
 pub use Rattle.shr_audit_formed.proofs.Eachs.{all_at, each_all, each_more, fails, more_at}
 pub use Rattle.shr_audit_formed.specs.Each.{EachItem}
-pub use Rattle.shr_report.specs.Parts.{EachAttempt, parents_of}
-pub use Rattle.shr_report.specs.declared.report.Report.{Report}
+pub use Rattle.shr_laws.specs.Parts.{EachAttempt, parents_of}
+pub use Rattle.shr_laws.specs.declared.report.Report.{Report}
 pub use Rattle.shr_audit_tables.specs.Found.{AreFoundRight, IsFindAt, IsFindRight, IsLiveRight}
 pub use Rattle.shr_audit_tables.specs.Met.{AreMetRight, IsMetRight}

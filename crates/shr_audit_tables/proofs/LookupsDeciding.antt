@@ -2,7 +2,7 @@
 use Rattle.shr_audit_tables.proofs.LookupsCommon.{◌≡◌, ℕ, ◌≤◌, Bool, length, Some, refl, sym, ap, subst, ◌∙◌, Decides, Report, true, false, cond, take, drop, Option, None, IsLiveRight}
 use Rattle.shr_base.specs.declared.replies.Found.{Found}
 use Rattle.shr_model.specs.Pool.{decl_of, end_of, from_of, is_live}
-use Rattle.shr_report.specs.Lookups.{IsFoundRight}
+use Rattle.shr_laws.specs.Lookups.{IsFoundRight}
 use Rattle.shr_audit_case.specs.declared.steps.Registration.{Registration}
 use Rattle.shr_audit_case.specs.Live.{live_now}
 

@@ -1,6 +1,6 @@
 -- The law on lookups, from its fields.
 use Rattle.shr_audit_tables.proofs.LookupsCommon.{◌≡◌, ℕ, ◌≤◌, Bool, List, length, subst, ◌∙◌, Decides, Script, Report, IsDrawn, AreFoundRight, AreMetRight, parents_of}
-use Rattle.shr_report.specs.Lookups.{AreLookupsLawful}
+use Rattle.shr_laws.specs.Lookups.{AreLookupsLawful}
 use Rattle.shr_audit_tables.specs.Idle.{AreIdleEmpty, NonePast}
 use Rattle.shr_audit_tables.specs.Lookups.{IsPoolLawful}
 use Rattle.shr_audit_tables.specs.Registrations.{AreStatesOf}

@@ -5,9 +5,9 @@ use Rattle.shr_model.specs.Families.{lists_moved, items_within}
 use Rattle.shr_model.specs.Groups.{path_within}
 use Rattle.shr_model.specs.Items.{items_from}
 use Rattle.shr_model.specs.Pool.{phase_of, decl_from, from_from, number_from}
-use Rattle.shr_report.proofs.SecondReport.{kept, dentry, by}
-use Rattle.shr_report.proofs.FirstReport.{script, report, answer}
-use Rattle.shr_report.proofs.ThirdReport as third
+use Rattle.shr_laws.proofs.SecondReport.{kept, dentry, by}
+use Rattle.shr_laws.proofs.FirstReport.{script, report, answer}
+use Rattle.shr_laws.proofs.ThirdReport as third
 
 abbrev place : ℕ → Place
 place group = record { id = 0; node = 0; group = group }

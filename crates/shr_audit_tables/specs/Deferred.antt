@@ -4,9 +4,9 @@ use Rattle.shr_base.specs.declared.places.Place.{Place}
 use Rattle.shr_base.specs.declared.ends.WorkerPart.{WorkerPart}
 use Rattle.shr_model.specs.Deferred.{deferred_word}
 use Rattle.shr_model.specs.Moves.{given_at, taken_at}
-use Rattle.shr_report.specs.declared.report.Report.{Report}
-use Rattle.shr_report.specs.Deferred.{printed_at}
-use Rattle.shr_report.specs.Parts.{all_walks, all_carries}
+use Rattle.shr_laws.specs.declared.report.Report.{Report}
+use Rattle.shr_laws.specs.Deferred.{printed_at}
+use Rattle.shr_laws.specs.Parts.{all_walks, all_carries}
 
 -- what a worker's passes and carries gave at a place
 abbrev pub given_by_worker : List ℕ → WorkerPart → Place → ℕ

@@ -6,9 +6,9 @@ use Rattle.shr_base.specs.declared.replies.Answered.{Answered}
 use Rattle.shr_base.specs.Walks.{Attempt, WalkRecord}
 use Rattle.shr_base.specs.declared.ends.WorkerPart.{WorkerPart}
 use Rattle.shr_model.specs.Attempts.{number_of}
-use Rattle.shr_report.specs.declared.report.Report.{Report}
-use Rattle.shr_report.specs.Lookups.{found_numbers, tried_numbers}
-use Rattle.shr_report.specs.Parts.{lookups_at}
+use Rattle.shr_laws.specs.declared.report.Report.{Report}
+use Rattle.shr_laws.specs.Lookups.{found_numbers, tried_numbers}
+use Rattle.shr_laws.specs.Parts.{lookups_at}
 use Rattle.shr_audit_case.specs.declared.moves.Move.{Move}
 
 -- a lookup of an id, by one number

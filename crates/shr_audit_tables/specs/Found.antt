@@ -7,9 +7,9 @@ use Rattle.shr_base.specs.declared.scripts.Script.{Script}
 use Rattle.shr_model.specs.Commands.{decl_named}
 use Rattle.shr_model.specs.Pool.{is_before}
 use Rattle.shr_audit_case.specs.declared.steps.Registration.{Registration}
-use Rattle.shr_report.specs.declared.report.Report.{Report}
-use Rattle.shr_report.specs.Lookups.{IsFoundRight}
-use Rattle.shr_report.specs.Parts.{EachAnswer, command_at, serial_of}
+use Rattle.shr_laws.specs.declared.report.Report.{Report}
+use Rattle.shr_laws.specs.Lookups.{IsFoundRight}
+use Rattle.shr_laws.specs.Parts.{EachAnswer, command_at, serial_of}
 
 -- if a command that names a declaration found a cache, it was live with this declaration
 abbrev pub IsFindRight : Report → Command → Answered → Type 0

@@ -4,8 +4,8 @@ use Rattle.shr_base.specs.declared.places.Place.{Place}
 use Rattle.shr_base.specs.declared.journals.PoolEntry.{PoolEntry}
 use Rattle.shr_model.specs.Families.{items_of}
 use Rattle.shr_model.specs.Pool.{phase_of}
-use Rattle.shr_report.specs.declared.report.Report.{Report}
-use Rattle.shr_report.specs.Parts.{journals_of}
+use Rattle.shr_laws.specs.declared.report.Report.{Report}
+use Rattle.shr_laws.specs.Parts.{journals_of}
 use Rattle.shr_audit_tables.specs.declared.registrations.IdState.{IdState}
 
 -- a journal of registrations speaks of no id past the last

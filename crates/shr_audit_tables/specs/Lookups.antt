@@ -5,8 +5,8 @@ use Rattle.shr_base.specs.declared.journals.PoolEntry.TheVariants.{Registered}
 use Rattle.shr_base.specs.declared.scripts.CacheDecl.{CacheDecl}
 use Rattle.shr_base.specs.declared.scripts.Script.{Script}
 use Rattle.shr_model.specs.Pool.{is_live, last_number, IsPoolJournal}
-use Rattle.shr_report.specs.declared.report.Report.{Report}
-use Rattle.shr_report.specs.Parts.{decls_on, lookups_at}
+use Rattle.shr_laws.specs.declared.report.Report.{Report}
+use Rattle.shr_laws.specs.Parts.{decls_on, lookups_at}
 
 -- the declarations of these that are `on`, where the first has this number
 abbrev pub on_from : ℕ → List CacheDecl → List ℕ

@@ -3,8 +3,8 @@ use Rattle.std.specs.Prelude.{◌≡◌, ℕ, Some, is_some}
 use Rattle.shr_base.specs.Walks.{Attempt}
 use Rattle.shr_model.specs.Attempts.{number_of, is_held}
 use Rattle.shr_model.specs.Pool.{attempt_at}
-use Rattle.shr_report.specs.declared.report.Report.{Report}
-use Rattle.shr_report.specs.Parts.{lookups_at, EachAttempt, EachWalk}
+use Rattle.shr_laws.specs.declared.report.Report.{Report}
+use Rattle.shr_laws.specs.Parts.{lookups_at, EachAttempt, EachWalk}
 
 -- an attempt with a number was held if and only if the number lies in a registration of its id
 abbrev pub IsMetRight : Report → Attempt → Type 0

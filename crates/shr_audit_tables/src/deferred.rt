@@ -4,10 +4,10 @@ ghost use Rattle.std.specs.Prelude.{◌≡◌, ◌<◌, ◌^◌, OnOk, IfOk, sum
 ghost use Rattle.std.specs.Bool.{Decides};
 ghost use Rattle.shr_base.specs.declared.ends.WorkerPart.{WorkerPart};
 ghost use Rattle.shr_base.specs.declared.scripts.Command.TheVariants.{Offline};
-ghost use Rattle.shr_report.specs.Deferred.{HasCarried, IsCarryRight, IsDeferredLawful};
-ghost use Rattle.shr_report.specs.Numbers.{HasNumbers};
-ghost use Rattle.shr_report.specs.Parts.{IsThere, parents_of};
-ghost use Rattle.shr_report.specs.WellFormed.{IsWellFormed};
+ghost use Rattle.shr_laws.specs.Deferred.{HasCarried, IsCarryRight, IsDeferredLawful};
+ghost use Rattle.shr_laws.specs.Numbers.{HasNumbers};
+ghost use Rattle.shr_laws.specs.Parts.{IsThere, parents_of};
+ghost use Rattle.shr_laws.specs.WellFormed.{IsWellFormed};
 ghost use Rattle.shr_audit_formed.specs.Each.{EachItem};
 ghost use Rattle.shr_audit_case.specs.Deferred.{GainsAtEach};
 ghost use Rattle.shr_audit_tables.specs.Deferred.{given_by_worker, taken_by, AreWordsRight};
@@ -21,7 +21,7 @@ use shr_base::places::Place;
 use shr_base::replies::Reply;
 use shr_base::scripts::{Command, Script};
 use shr_base::walks::Carry;
-use shr_report::report::Report;
+use shr_laws::report::Report;
 use std::alloc::Global;
 
 // The numbers of parents have the range of their type.

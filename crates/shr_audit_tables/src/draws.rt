@@ -4,8 +4,8 @@ ghost use Rattle.std.specs.Prelude.{◌≡◌, ◌++◌, ◌∷◌, [], ◌+◌,
 ghost use Rattle.std.specs.Bool.{Decides};
 ghost use Rattle.std.specs.List.{range_with_len};
 ghost use Rattle.shr_model.specs.Attempts.{number_of};
-ghost use Rattle.shr_report.specs.Numbers.{HasNumbers};
-ghost use Rattle.shr_report.specs.WellFormed.{IsWellFormed};
+ghost use Rattle.shr_laws.specs.Numbers.{HasNumbers};
+ghost use Rattle.shr_laws.specs.WellFormed.{IsWellFormed};
 ghost use Rattle.shr_audit_formed.specs.Each.{EachItem};
 ghost use Rattle.shr_audit_tables.specs.Draws.{AreDrawnOnce, IsDrawn, answer_draws, attempt_draws, draw_key, drawn_move, part_draws, walk_draws, wanted_move, wanted_from};
 
@@ -15,7 +15,7 @@ use shr_base::ends::WorkerPart;
 use shr_base::memory::Memory;
 use shr_base::replies::Answered;
 use shr_base::walks::{Outcome, WalkRecord};
-use shr_report::report::Report;
+use shr_laws::report::Report;
 use std::alloc::Global;
 
 // A lookup of an id, by one number.

@@ -6,8 +6,8 @@ ghost use Rattle.shr_base.specs.declared.ends.WorkerPart.{WorkerPart};
 ghost use Rattle.shr_base.specs.declared.replies.Answered.{Answered};
 ghost use Rattle.shr_model.specs.Commands.{decl_named};
 ghost use Rattle.shr_model.specs.Pool.{IsPoolJournal, is_before};
-ghost use Rattle.shr_report.specs.Lookups.{IsFoundRight};
-ghost use Rattle.shr_report.specs.Parts.{command_at, serial_of};
+ghost use Rattle.shr_laws.specs.Lookups.{IsFoundRight};
+ghost use Rattle.shr_laws.specs.Parts.{command_at, serial_of};
 ghost use Rattle.shr_audit_case.specs.Live.{AreLives};
 ghost use Rattle.shr_audit_tables.specs.Found.{AreFoundRight, IsFindAt, IsFindRight, IsLiveRight};
 
@@ -17,7 +17,7 @@ use shr_base::ends::WorkerPart;
 use shr_base::memory::Memory;
 use shr_base::replies::{Answered, Found};
 use shr_base::scripts::{Command, Script};
-use shr_report::report::Report;
+use shr_laws::report::Report;
 use std::alloc::Global;
 
 // The declaration that a command names, if it names one.

@@ -12,7 +12,7 @@ use crate::registrations::IdState;
 use shr_audit_case::case::Case;
 use shr_base::ends::PlaceEnd;
 use shr_base::places::Place;
-use shr_report::report::Report;
+use shr_laws::report::Report;
 
 // Whether an id is idle.
 fn is_idle(states: &[IdState], id: u16) -> bool

@@ -4,7 +4,7 @@
 ghost use Rattle.std.specs.Prelude.{◌≡◌, ◌++◌, [], ◌∷◌, cond, IfOk, IfSome, IfNone, OnOk};
 ghost use Rattle.std.specs.Bool.{Decides};
 ghost use Rattle.shr_base.specs.declared.journals.PoolEntry.TheVariants.{Registered};
-ghost use Rattle.shr_report.specs.WellFormed.{IsWellFormed};
+ghost use Rattle.shr_laws.specs.WellFormed.{IsWellFormed};
 ghost use Rattle.shr_audit_tables.specs.Lookups.{IsPoolLawful, OpensWith, on_from};
 ghost use Rattle.shr_audit_tables.specs.Registrations.{AreStatesOf};
 
@@ -12,7 +12,7 @@ use crate::registrations::{IdState, are_last_reached, replay_pool};
 use shr_base::journals::PoolEntry;
 use shr_base::memory::Memory;
 use shr_base::scripts::{CacheDecl, Script};
-use shr_report::report::Report;
+use shr_laws::report::Report;
 use std::alloc::Global;
 
 // Adds the number of a declaration, if it is `on`.

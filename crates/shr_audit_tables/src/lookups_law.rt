@@ -3,9 +3,9 @@
 ghost use Rattle.std.specs.Prelude.{IfOk};
 ghost use Rattle.std.specs.Bool.{Decides};
 ghost use Rattle.shr_audit_case.specs.Lists.{IsCaseOf};
-ghost use Rattle.shr_report.specs.Lookups.{AreLookupsLawful};
-ghost use Rattle.shr_report.specs.Numbers.{HasNumbers};
-ghost use Rattle.shr_report.specs.WellFormed.{IsWellFormed};
+ghost use Rattle.shr_laws.specs.Lookups.{AreLookupsLawful};
+ghost use Rattle.shr_laws.specs.Numbers.{HasNumbers};
+ghost use Rattle.shr_laws.specs.WellFormed.{IsWellFormed};
 
 use crate::draws::is_drawn;
 use crate::found::are_found_right;
@@ -15,7 +15,7 @@ use crate::met::are_met_right;
 use shr_audit_case::case::Case;
 use shr_base::memory::Memory;
 use shr_base::scripts::Script;
-use shr_report::report::Report;
+use shr_laws::report::Report;
 use std::alloc::Global;
 
 /// Whether registrations follow each other as they may, and each lookup met what its number says,

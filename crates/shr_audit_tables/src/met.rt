@@ -5,7 +5,7 @@ ghost use Rattle.std.specs.Bool.{Decides};
 ghost use Rattle.shr_base.specs.declared.ends.WorkerPart.{WorkerPart};
 ghost use Rattle.shr_audit_formed.specs.Each.{EachItem};
 ghost use Rattle.shr_model.specs.Attempts.{is_held, number_of};
-ghost use Rattle.shr_report.specs.Parts.{EachAttempt, lookups_at};
+ghost use Rattle.shr_laws.specs.Parts.{EachAttempt, lookups_at};
 ghost use Rattle.shr_model.specs.Pool.{attempt_at, decl_at, registrations};
 ghost use Rattle.shr_audit_case.specs.Met.{IsMetIn};
 ghost use Rattle.shr_audit_tables.specs.Met.{AreMetRight, IsMetRight};
@@ -15,7 +15,7 @@ use shr_base::attempts::Attempt;
 use shr_base::ends::WorkerPart;
 use shr_base::memory::Memory;
 use shr_base::walks::{Outcome, WalkRecord};
-use shr_report::report::Report;
+use shr_laws::report::Report;
 use std::alloc::Global;
 
 // The number of the lookup, where there was one.

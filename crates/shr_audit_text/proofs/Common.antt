@@ -26,13 +26,13 @@ pub use Rattle.shr_audit_text.specs.declared.said.Said.{Said}
 pub use Rattle.shr_report.proofs.LinesBack.{IsPrintable, amount_of, printed_attempt, printed_bit, printed_cache, printed_carry, printed_deferred, printed_entry, printed_found, printed_group, printed_item, printed_list, printed_lookups, printed_map, printed_reply, printed_size, printed_total, printed_tree, printed_use, printed_version, printed_walk, walk_line}
 pub use Rattle.shr_report.proofs.Printed.{Printed, printed}
 pub use Rattle.shr_report.proofs.Sections.{all_both, all_taken, flat_numbered}
-pub use Rattle.shr_report.specs.Lines.{line, numbered, numeral}
-pub use Rattle.shr_report.specs.Numbers.{AreUnitsNumbered, HasNumbers, IsAmountNumbered, IsAnsweredNumbered, IsAttemptNumbered, IsCarryNumbered, IsCountNumber, IsEntryNumbered, IsFindNumbered, IsIsolationNumbered, IsListNumbered, IsMapNumbered, IsObjectNumbered, IsPartNumbered, IsPlainEntryNumbered, IsPlainNumbered, IsReplyNumbered, IsSeenNumbered, IsShort, IsTryNumbered, IsUseNumbered, IsWalkNumbered}
+pub use Rattle.shr_laws.specs.Lines.{line, numbered, numeral}
+pub use Rattle.shr_laws.specs.Numbers.{AreUnitsNumbered, HasNumbers, IsAmountNumbered, IsAnsweredNumbered, IsAttemptNumbered, IsCarryNumbered, IsCountNumber, IsEntryNumbered, IsFindNumbered, IsIsolationNumbered, IsListNumbered, IsMapNumbered, IsObjectNumbered, IsPartNumbered, IsPlainEntryNumbered, IsPlainNumbered, IsReplyNumbered, IsSeenNumbered, IsShort, IsTryNumbered, IsUseNumbered, IsWalkNumbered}
 pub use Rattle.shr_report.specs.ReadLines.{Totals, read_amount, read_attempt, read_bit, read_cache, read_entry, read_found, read_group, read_isolation, read_item, read_list, read_lookups, read_map, read_pass_line, read_plain, read_plain_entry, read_pool_amount, read_reply_line, read_size, read_total, read_tree, read_units, read_use, read_version, read_walk, totals}
-pub use Rattle.shr_report.specs.Text.{bit_line, numbered_cache_line, deferred_line, entry_line, numbered_group_line, item_line, lookups_line, place_lines, plain_entry_line, pool_deferred_line, pool_entry_line, tree_line, units_lines, units_name_line, use_line, worker_lines}
-pub use Rattle.shr_report.specs.WalkText.{carry_line, isolation_line, plain_lines, walk_lines}
-pub use Rattle.shr_report.specs.WellFormed.{HasWords, IsBitWord, IsNumbered, IsPartWell, IsPlaceWell, IsPoolAmountWell, IsPoolNumbered, IsSpelled, IsTreeNumbered, IsWalkWell, IsWellFormed, LendsWord}
-pub use Rattle.shr_report.specs.declared.report.Report.{Report}
+pub use Rattle.shr_laws.specs.Text.{bit_line, numbered_cache_line, deferred_line, entry_line, numbered_group_line, item_line, lookups_line, place_lines, plain_entry_line, pool_deferred_line, pool_entry_line, tree_line, units_lines, units_name_line, use_line, worker_lines}
+pub use Rattle.shr_laws.specs.WalkText.{carry_line, isolation_line, plain_lines, walk_lines}
+pub use Rattle.shr_laws.specs.WellFormed.{HasWords, IsBitWord, IsNumbered, IsPartWell, IsPlaceWell, IsPoolAmountWell, IsPoolNumbered, IsSpelled, IsTreeNumbered, IsWalkWell, IsWellFormed, LendsWord}
+pub use Rattle.shr_laws.specs.declared.report.Report.{Report}
 pub use Rattle.slab.specs.Slab.{Slab, Updates, get, slab_len}
 pub use Rattle.shr_audit_text.specs.Draft.{walk_begun, drafted_report, found_answer, isolated, kept, last_changed, last_command, list_of, lists_of, no_part, padded, drafted_part, drafted_parts, passed_walk, plain_begun, drafted_plain, plains_of, drafted_pool, pools_of, replied, seen_walk, tried_walk, drafted_walk, drafted_walks, with_carry, with_found, with_isolation, with_last, with_more, with_plain, with_reply, with_said, with_walk}
 pub use Rattle.shr_audit_text.specs.Reading.{AreTightUnits, IsTightList, IsTightPart, IsTightPlain, IsTightReport, IsTightWalk, Reads, Says, nothing_read}

@@ -1,7 +1,8 @@
 -- What drafts say, at known lines.
 use Rattle.shr_audit_text.proofs.Common.{◌≡◌, ℕ, ◌+◌, [], ◌∷◌, None, refl, arith, codes, Report, kept, no_part, padded, with_reply, nothing_read}
 use Rattle.shr_base.specs.declared.replies.Reply.TheVariants as reply
-use Rattle.shr_model.specs.Pieces.{cut, pieces, left}
+use Rattle.shr_model.specs.Pieces.{cut, pieces}
+use Rattle.shr_model.specs.PieceParts.{left}
 use Rattle.shr_report.specs.ReadWords.{num}
 use Rattle.shr_audit_text.specs.declared.said.Said.TheVariants as said
 use Rattle.shr_audit_text.specs.Said.{plain_kind_of}

@@ -1,7 +1,8 @@
 -- Lines lead from what was read before them to what is read with them.
 use Rattle.shr_audit_text.proofs.Common.{◌≡◌, ℕ, ◌+◌, true, List, [], ◌∷◌, ◌++◌, flat_map, Option, Some, refl, sym, ap, subst, ◌∙◌, append_assoc, AllByRecursion, append-nil, cut, Report, line, Printed, Said, line_kind, read_line, with_said, Says, option_map, list_all, flat_numbered, said_of, IsSaidNumbered}
-use Rattle.shr_model.specs.Pieces.{pieces, left}
-use Rattle.shr_report.specs.Lines.{numbered}
+use Rattle.shr_model.specs.Pieces.{pieces}
+use Rattle.shr_model.specs.PieceParts.{left}
+use Rattle.shr_laws.specs.Lines.{numbered}
 use Rattle.shr_report.specs.ReadWords.{first_of, later}
 use Rattle.shr_report.proofs.Peel.{is_plain_word, body_of, body_words, cut_line}
 use Rattle.shr_audit_text.specs.declared.kinds.Kind.{Kind}

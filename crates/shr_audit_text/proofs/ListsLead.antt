@@ -4,7 +4,7 @@ use Rattle.shr_model.specs.Pieces.{cut, pieces}
 use Rattle.shr_base.specs.declared.places.Place.{Place}
 use Rattle.shr_base.specs.declared.journals.Entry.TheVariants as entry
 use Rattle.shr_base.specs.declared.journals.PlainEntry.TheVariants as units
-use Rattle.shr_report.specs.AnswerText.{place_words}
+use Rattle.shr_laws.specs.AnswerText.{place_words}
 use Rattle.shr_report.proofs.PlainLinesBack.{printed_plain_entry, units_line, printed_units}
 use Rattle.shr_report.proofs.PlainLinesBack as lines
 use Rattle.shr_audit_text.specs.declared.said.Said.TheVariants as said

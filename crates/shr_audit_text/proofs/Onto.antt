@@ -3,9 +3,8 @@ use Rattle.std.proofs.Common.{◌≡◌, ℕ, suc, ◌+◌, ◌*◌, ◌-◌, �
 use Rattle.std.specs.Prelude.{map}
 use Rattle.std.specs.Int.Digits.{number_from_digits_after}
 use Rattle.std.proofs.lemmas.List.{at_drop_more, at_drop_all}
-use Rattle.shr_model.specs.Pieces.{next_part}
-use Rattle.shr_report.specs.ReadWords.{later}
-use Rattle.shr_report.specs.ReadWords.{num, digit_of, hex_onto, unhex}
+use Rattle.shr_model.specs.PieceParts.{next_part}
+use Rattle.shr_report.specs.ReadWords.{later, num, digit_of, hex_onto, unhex}
 use Rattle.std.proofs.Math.Seq.{drop-cons}
 
 -- none is left where there is no next

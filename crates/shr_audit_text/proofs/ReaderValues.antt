@@ -4,7 +4,8 @@ use Rattle.std.specs.Prelude.{codes, negsuc}
 use Rattle.shr_base.specs.declared.journals.TreeEntry.TheVariants.{Begin, Made}
 use Rattle.shr_base.specs.declared.journals.PoolEntry.TheVariants.{Idle}
 use Rattle.shr_base.specs.declared.replies.Reply.TheVariants as reply
-use Rattle.shr_model.specs.Pieces.{cut, pieces, left}
+use Rattle.shr_model.specs.Pieces.{cut, pieces}
+use Rattle.shr_model.specs.PieceParts.{left}
 use Rattle.shr_report.specs.ReadLines.{read_tree, read_reply}
 use Rattle.shr_report.specs.ReadWords.{num, signed_num, starts_minus, later_bytes, digit_of, hex_onto, unhex}
 use Rattle.shr_audit_text.specs.declared.said.Said.TheVariants as said

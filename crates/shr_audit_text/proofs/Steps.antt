@@ -1,6 +1,7 @@
 -- One line more of a text, and the last.
 use Rattle.shr_audit_text.proofs.Common.{◌≡◌, ℕ, suc, ◌+◌, ◌-◌, ◌<◌, List, [], ◌∷◌, length, take, drop, true, false, Option, Some, None, refl, ap, subst, arith, cut, prefix_len, Report, Said, read_line, IsReadOf, with_said, Says, Bool, ◌==◌}
-use Rattle.shr_model.specs.Pieces.{pieces, differs, left}
+use Rattle.shr_model.specs.Pieces.{pieces, differs}
+use Rattle.shr_model.specs.PieceParts.{left}
 use Rattle.shr_model.proofs.PiecesLaws.{next_more, next_last}
 use Rattle.shr_audit_text.specs.Reading.{Reads}
 use Rattle.shr_model.proofs.Lists.{some_injective}

@@ -3,9 +3,9 @@ use Rattle.shr_audit_text.proofs.Common.{◌≡◌, ℕ, suc, ◌+◌, ◌<◌, 
 use Rattle.shr_model.specs.Pieces.{cut, pieces}
 use Rattle.shr_base.specs.declared.replies.Found.{Found}
 use Rattle.shr_base.specs.declared.replies.Reply.{Reply}
-use Rattle.shr_report.specs.Lines.{numbered}
-use Rattle.shr_report.specs.AnswerText.{reply_line, found_lines}
-use Rattle.shr_report.specs.Text.{is_walk_of, is_carry_of, is_plain_of, is_isolation_of, Logs, log_lines, after_command, logs_of, answer_lines}
+use Rattle.shr_laws.specs.Lines.{numbered}
+use Rattle.shr_laws.specs.AnswerText.{reply_line, found_lines}
+use Rattle.shr_laws.specs.Text.{is_walk_of, is_carry_of, is_plain_of, is_isolation_of, Logs, log_lines, after_command, logs_of, answer_lines}
 use Rattle.shr_report.proofs.PartsBack.{Remain, now_of, none_left}
 use Rattle.shr_report.proofs.WorkersBack.{AreParts, LastAnswers, last_later, of_commands, silent, zero_on}
 use Rattle.shr_audit_text.specs.declared.said.Said.TheVariants as said

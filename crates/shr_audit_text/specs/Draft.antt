@@ -1,7 +1,7 @@
 -- What a draft says: the report that its lines say, as far as they were read.
 use Rattle.std.specs.Prelude.{ℕ, ◌+◌, ◌-◌, ◌%◌, ◌^◌, List, [], ◌∷◌, ◌++◌, length, map, replicate, Some, None}
 use Rattle.shr_base.specs.Kept.{Kept}
-pub use Rattle.shr_base.specs.Kept.{kept}
+pub use Rattle.shr_base.specs.KeptLists.{kept}
 use Rattle.shr_base.specs.declared.places.Place.{Place}
 use Rattle.shr_base.specs.declared.places.Serial.{Serial}
 use Rattle.shr_base.specs.declared.objects.Object.{Object}
@@ -16,7 +16,7 @@ use Rattle.shr_base.specs.declared.ends.PlaceAmount.{PlaceAmount}
 use Rattle.shr_base.specs.declared.ends.PlaceEnd.{PlaceEnd}
 use Rattle.shr_base.specs.declared.ends.UnitsEnd.{UnitsEnd}
 use Rattle.shr_base.specs.declared.ends.WorkerPart.{WorkerPart}
-use Rattle.shr_report.specs.declared.report.Report.{Report}
+use Rattle.shr_laws.specs.declared.report.Report.{Report}
 use Rattle.shr_audit_text.specs.declared.walks.Head.{Head}
 use Rattle.shr_audit_text.specs.declared.pools.PlainHead.{PlainHead}
 use Rattle.shr_audit_text.specs.declared.pools.IsolationHead.{IsolationHead}

@@ -7,10 +7,10 @@ use Rattle.shr_base.specs.declared.walks.PlainWalk.{PlainWalk}
 use Rattle.shr_base.specs.declared.ends.UnitsEnd.{UnitsEnd}
 use Rattle.shr_base.specs.declared.ends.PlaceEnd.{PlaceEnd}
 use Rattle.shr_base.specs.declared.ends.WorkerPart.{WorkerPart}
-use Rattle.shr_report.specs.declared.report.Report.{Report}
-use Rattle.shr_report.specs.Text.{text}
-use Rattle.shr_report.specs.WellFormed.{IsWellFormed}
-use Rattle.shr_report.specs.Numbers.{HasNumbers}
+use Rattle.shr_laws.specs.declared.report.Report.{Report}
+use Rattle.shr_laws.specs.Text.{text}
+use Rattle.shr_laws.specs.WellFormed.{IsWellFormed}
+use Rattle.shr_laws.specs.Numbers.{HasNumbers}
 use Rattle.shr_audit_text.specs.declared.said.Said.{Said}
 use Rattle.shr_audit_text.specs.Said.{read_line, IsSaidNumbered}
 use Rattle.shr_audit_text.specs.Draft.{kept, with_said}

@@ -1,10 +1,10 @@
 -- What a line of a report says: its kind by its first word, and the value by the words behind that.
 use Rattle.std.specs.Prelude.{◌≡◌, ℕ, ◌<◌, ◌^◌, Bool, ◌||◌, bytes_eq, codes, if◌then◌else◌, List, Option, Some, None, option_map, []}
-use Rattle.shr_model.specs.Pieces.{left}
+use Rattle.shr_model.specs.PieceParts.{left}
 use Rattle.shr_report.specs.ReadWords.{first_of, later, is_none, n0, n1, n2}
 use Rattle.shr_report.specs.ReadLines.{WalkHead, read_reply, read_found, read_group, read_cache, read_pool, read_tree, read_attempt, read_map, read_walk, read_amount, read_list, read_bit, read_use, read_lookups, read_entry, read_item, read_pass_line, read_plain, read_isolation, read_units_name, read_plain_entry, read_units, read_pool_amount}
-use Rattle.shr_report.specs.WellFormed.{IsNumbered, IsBitWord, IsPoolNumbered, IsTreeNumbered}
-use Rattle.shr_report.specs.Numbers.{IsShort, IsCountNumber, IsReplyNumbered, IsFindNumbered, IsAttemptNumbered, IsSeenNumbered, IsWalkedNumbered, IsEntryNumbered, IsObjectNumbered, IsMapNumbered, IsAmountNumbered, IsUseNumbered, IsIsolateEndNumbered, IsTryNumbered, IsPlainAnswerNumbered, IsPlainEntryNumbered}
+use Rattle.shr_laws.specs.WellFormed.{IsNumbered, IsBitWord, IsPoolNumbered, IsTreeNumbered}
+use Rattle.shr_laws.specs.Numbers.{IsShort, IsCountNumber, IsReplyNumbered, IsFindNumbered, IsAttemptNumbered, IsSeenNumbered, IsWalkedNumbered, IsEntryNumbered, IsObjectNumbered, IsMapNumbered, IsAmountNumbered, IsUseNumbered, IsIsolateEndNumbered, IsTryNumbered, IsPlainAnswerNumbered, IsPlainEntryNumbered}
 use Rattle.shr_audit_text.specs.declared.kinds.Kind.{Kind}
 use Rattle.shr_audit_text.specs.declared.kinds.Kind.TheVariants as kind
 use Rattle.shr_audit_text.specs.declared.kinds.PlainKind.{PlainKind}

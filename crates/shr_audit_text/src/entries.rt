@@ -3,9 +3,9 @@
 ghost use Rattle.std.specs.Prelude.{◌≡◌, [], IfOk, IfSome, IfNone, codes, if◌then◌else◌};
 ghost use Rattle.shr_report.specs.ReadWords.{later, w3, n2, read_serial};
 ghost use Rattle.shr_report.specs.ReadLines.{read_entry, read_item, read_kind, read_policy};
-ghost use Rattle.shr_report.specs.Numbers.{IsEntryNumbered, IsObjectNumbered, IsSerialNumbered, IsShort};
+ghost use Rattle.shr_laws.specs.Numbers.{IsEntryNumbered, IsObjectNumbered, IsSerialNumbered, IsShort};
 ghost use Rattle.shr_audit_text.specs.Reads.{IsReadAs};
-ghost use Rattle.shr_words.specs.Classes.{words_left};
+ghost use Rattle.shr_words.specs.WordReading.{words_left};
 
 use crate::spent::serial;
 use crate::words::{behind_first, number, number_16, number_32, word};

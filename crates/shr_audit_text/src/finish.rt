@@ -12,7 +12,7 @@ use shr_base::found::Found;
 use shr_base::log::Log;
 use shr_base::memory::Memory;
 use shr_base::walks::{PlainWalk, WalkAsked, WalkRecord};
-use shr_report::report::Report;
+use shr_laws::report::Report;
 use std::alloc::Global;
 
 // A walk.

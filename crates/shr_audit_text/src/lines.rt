@@ -2,8 +2,8 @@
 
 ghost use Rattle.std.specs.Prelude.{◌≡◌, [], IfSome, IfNone};
 ghost use Rattle.shr_report.specs.ReadLines.{read_pool, read_tree};
-ghost use Rattle.shr_report.specs.WellFormed.{IsPoolNumbered, IsTreeNumbered};
-ghost use Rattle.shr_words.specs.Classes.{words_left};
+ghost use Rattle.shr_laws.specs.WellFormed.{IsPoolNumbered, IsTreeNumbered};
+ghost use Rattle.shr_words.specs.WordReading.{words_left};
 
 use crate::words::{number_8, number_16, number_32, word};
 use shr_base::journals::{PoolEntry, TreeEntry};

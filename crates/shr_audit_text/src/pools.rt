@@ -2,9 +2,9 @@
 
 ghost use Rattle.std.specs.Prelude.{◌≡◌, [], IfSome, IfNone};
 ghost use Rattle.shr_report.specs.ReadLines.{read_pass_line, read_try, read_plain_answer, read_plain, read_isolation, read_plain_entry, read_units, read_pool_amount};
-ghost use Rattle.shr_report.specs.Numbers.{IsTryNumbered, IsPlainAnswerNumbered, IsPlainEntryNumbered, IsAmountNumbered};
+ghost use Rattle.shr_laws.specs.Numbers.{IsTryNumbered, IsPlainAnswerNumbered, IsPlainEntryNumbered, IsAmountNumbered};
 ghost use Rattle.shr_audit_text.specs.Said.{plain_head_of, isolation_head_of, units_head_of, IsPlainHeadNumbered, IsIsolationHeadNumbered, AreUnitsHeadNumbered};
-ghost use Rattle.shr_words.specs.Classes.{words_left};
+ghost use Rattle.shr_words.specs.WordReading.{words_left};
 
 use crate::spent::{isolate_end, pass, place, serial};
 use crate::words::{number, number_8, number_16, number_32, word};

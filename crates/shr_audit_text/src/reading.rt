@@ -3,14 +3,14 @@
 ghost use Rattle.std.specs.Prelude.{◌≡◌, ◌≤◌, [], ◌∷◌, length, Some, IfOk, IfSome, IfNone};
 ghost use Rattle.std.specs.List.{prefix_len};
 ghost use Rattle.shr_model.specs.Pieces.{pieces, differs};
-ghost use Rattle.shr_report.specs.declared.report.Report.{Report};
+ghost use Rattle.shr_laws.specs.declared.report.Report.{Report};
 ghost use Rattle.shr_audit_text.specs.Reading.{IsReportOf, IsTightReport};
 
 use crate::draft::Draft;
 use crate::finish::finish;
 use crate::said::read_line;
 use shr_base::memory::Memory;
-use shr_report::report::Report;
+use shr_laws::report::Report;
 use std::alloc::Global;
 
 // The number of bytes before the first line feed.

@@ -3,11 +3,11 @@
 ghost use Rattle.std.specs.Prelude.{◌≡◌, [], ◌∷◌, true, IfOk, IfSome, IfNone, bytes_eq, codes, if◌then◌else◌};
 ghost use Rattle.shr_report.specs.ReadWords.{later, is_none, w0, n0, n1, n2, n3, n4, read_at, read_why};
 ghost use Rattle.shr_report.specs.ReadLines.{read_reply};
-ghost use Rattle.shr_report.specs.Numbers.{IsReplyNumbered};
+ghost use Rattle.shr_laws.specs.Numbers.{IsReplyNumbered};
 ghost use Rattle.shr_base.specs.declared.replies.Reply.TheVariants.{Freed, Half, OfflineDone, Done};
 ghost use Rattle.shr_audit_text.specs.Reads.{IsReadAs};
 ghost use Rattle.shr_audit_text.specs.Kinds.{IsNoneOf, citing, walking, registering, making};
-ghost use Rattle.shr_words.specs.Classes.{words_left};
+ghost use Rattle.shr_words.specs.WordReading.{words_left};
 
 use crate::spent::{at, isolate_end, spent, why};
 use crate::words::{behind_first, is_over, number, number_8, number_16, number_32, word};

@@ -3,7 +3,7 @@
 ghost use Rattle.std.specs.Prelude.{[], IfOk};
 ghost use Rattle.shr_audit_text.specs.Reads.{IsReadAs};
 ghost use Rattle.shr_audit_text.specs.Said.{plain_said, pool_said, read_line, said_of, IsSaidNumbered, IsReadOf};
-ghost use Rattle.shr_words.specs.Classes.{words_left};
+ghost use Rattle.shr_words.specs.WordReading.{words_left};
 
 use crate::entries::{entry, item};
 use crate::kinds::{Kind, PlainKind, kind_of};

@@ -2,9 +2,9 @@
 
 ghost use Rattle.std.specs.Prelude.{◌≡◌, IfSome, IfNone};
 ghost use Rattle.shr_report.specs.ReadWords.{read_place, read_at, read_serial, read_spent, read_why, read_isolate_end, read_ending, read_pass};
-ghost use Rattle.shr_report.specs.WellFormed.{IsNumbered};
-ghost use Rattle.shr_report.specs.Numbers.{IsAtNumbered, IsSerialNumbered, IsSpentNumbered, IsWhyNumbered, IsIsolateEndNumbered, IsEndingNumbered, IsPassNumbered};
-ghost use Rattle.shr_words.specs.Classes.{words_left};
+ghost use Rattle.shr_laws.specs.WellFormed.{IsNumbered};
+ghost use Rattle.shr_laws.specs.Numbers.{IsAtNumbered, IsSerialNumbered, IsSpentNumbered, IsWhyNumbered, IsIsolateEndNumbered, IsEndingNumbered, IsPassNumbered};
+ghost use Rattle.shr_words.specs.WordReading.{words_left};
 
 use crate::words::{is_over, number, number_8, number_16, number_32, word};
 use shr_base::places::{At, Place, Serial};

@@ -3,8 +3,8 @@
 
 ghost use Rattle.std.specs.Prelude.{◌≡◌, ◌<◌, ◌^◌, [], IfSome, IfNone};
 ghost use Rattle.shr_report.specs.ReadLines.{read_amount, read_bit, read_use, read_lookups, read_found};
-ghost use Rattle.shr_report.specs.Numbers.{IsCountNumber, IsMapNumbered, IsAmountNumbered, IsUseNumbered, IsFindNumbered};
-ghost use Rattle.shr_words.specs.Classes.{words_left};
+ghost use Rattle.shr_laws.specs.Numbers.{IsCountNumber, IsMapNumbered, IsAmountNumbered, IsUseNumbered, IsFindNumbered};
+ghost use Rattle.shr_words.specs.WordReading.{words_left};
 
 use crate::spent::{place, serial};
 use crate::words::{hexadecimal, number, number_8, number_16, number_32, signed, word};

@@ -3,11 +3,11 @@
 ghost use Rattle.std.specs.Prelude.{◌≡◌, [], IfSome, IfNone, bytes_eq, codes, if◌then◌else◌};
 ghost use Rattle.shr_report.specs.ReadWords.{later, w1, n0, n2, n3, read_pass};
 ghost use Rattle.shr_report.specs.ReadLines.{read_attempt, read_map, read_outcome, read_walked, read_walk};
-ghost use Rattle.shr_report.specs.Numbers.{IsAttemptNumbered, IsOutcomeNumbered, IsSeenNumbered, IsWalkedNumbered};
+ghost use Rattle.shr_laws.specs.Numbers.{IsAttemptNumbered, IsOutcomeNumbered, IsSeenNumbered, IsWalkedNumbered};
 ghost use Rattle.shr_base.specs.declared.walks.GoneThen.TheVariants.{Set, Clear, Root};
 ghost use Rattle.shr_base.specs.declared.walks.Outcome.TheVariants.{RestoredSkip, RestoredRan};
 ghost use Rattle.shr_audit_text.specs.Said.{head_of, IsHeadNumbered};
-ghost use Rattle.shr_words.specs.Classes.{words_left};
+ghost use Rattle.shr_words.specs.WordReading.{words_left};
 
 use crate::spent::pass;
 use crate::words::{hexadecimal, is_over, number, number_8, number_16, number_32, word};

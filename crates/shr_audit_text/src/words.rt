@@ -2,7 +2,7 @@
 
 ghost use Rattle.std.specs.Prelude.{◌≡◌, ◌≤◌, ◌^◌, ◌≤ℤ◌, ◌<ℤ◌, pos, neg_ℤ, IfSome, IfNone};
 ghost use Rattle.shr_report.specs.ReadWords.{bytes_later, first_of, is_none, later, num, digit_of, unhex, signed_num};
-ghost use Rattle.shr_words.specs.Classes.{words_left};
+ghost use Rattle.shr_words.specs.WordReading.{words_left};
 
 use shr_words::cursor::next;
 
@@ -18,7 +18,7 @@ pub fn word(rest: Option<&[u8]>) -> (&[u8], Option<&[u8]>)
 }
 
 /// Whether no word is left. Our own.
-#[tactic(auto, unfolding(shr_model::specs::Pieces::left, shr_model::specs::Pieces::pieces))]
+#[tactic(auto, unfolding(shr_model::specs::PieceParts::left, shr_model::specs::Pieces::pieces))]
 pub fn is_over(rest: Option<&[u8]>) -> bool
     ensures { result ≡ is_none (words_left rest.entry) }
 {

@@ -15,6 +15,6 @@ pub use Rattle.shr_model.specs.Families.{lists_moved_at}
 pub use Rattle.shr_audit_case.specs.Journals.{values_from}
 pub use Rattle.shr_audit_case.specs.Values.{value_met, values_noted}
 pub use Rattle.shr_audit_case.specs.declared.values.FoundValue.{FoundValue}
-pub use Rattle.shr_report.specs.Parts.{answer_at, at, journal_of, journals_of, parents_of}
-pub use Rattle.shr_report.specs.declared.report.Report.{Report}
+pub use Rattle.shr_laws.specs.Parts.{answer_at, at, journal_of, journals_of, parents_of}
+pub use Rattle.shr_laws.specs.declared.report.Report.{Report}
 pub use Rattle.shr_audit_values.specs.Lent.{AreAhead, AreMetLent, AreValuesLentAt, IsLent, IsLentTo, IsMetLent, IsValueLent, value_first, values_behind}

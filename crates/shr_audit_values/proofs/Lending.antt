@@ -2,7 +2,8 @@
 use Rattle.shr_audit_values.proofs.Common.{◌≡◌, ℕ, ◌<◌, List, [], ◌∷◌, length, take, Option, Some, None, refl, sym, ap, ◌∙◌, arith, Object, Entry, FoundValue, value_met, AreAhead, value_first, values_behind, ◌+◌, false, ◌++◌, get_or, drop, ◌==◌, cond, values_noted}
 use Rattle.std.proofs.lemmas.Bool.Decides.{nat_tests}
 use Rattle.std.proofs.lemmas.List.{take_more, drop_more}
-use Rattle.shr_model.specs.Items.{items_from, moved_from, step, first_moved, later_moved}
+use Rattle.shr_model.specs.Items.{items_from, step, first_moved, later_moved}
+use Rattle.shr_model.specs.MovedItems.{moved_from}
 use Rattle.shr_model.proofs.ItemsLaws.{items_from_push, moved_from_push}
 use Rattle.shr_audit_case.specs.Journals.{values_from}
 use Rattle.shr_model.proofs.Booleans.{itself}

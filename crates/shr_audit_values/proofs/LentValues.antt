@@ -1,8 +1,9 @@
 -- Values that hits lend, at known values.
 use Rattle.shr_audit_values.proofs.Common.{◌≡◌, List, [], ◌∷◌, Some, None, refl, Entry, Add, Look, FoundValue, AreAhead, value_first, values_behind, true, codes}
-use Rattle.shr_model.specs.Items.{items_from, moved_from}
+use Rattle.shr_model.specs.Items.{items_from}
+use Rattle.shr_model.specs.MovedItems.{moved_from}
 use Rattle.shr_audit_case.specs.Journals.{values_from}
-use Rattle.shr_report.proofs.SecondReport.{by}
+use Rattle.shr_laws.proofs.SecondReport.{by}
 
 -- a put, a get that finds its object, and one that finds none
 abbrev entries : List Entry

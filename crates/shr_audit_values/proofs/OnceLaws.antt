@@ -8,8 +8,8 @@ use Rattle.shr_base.specs.declared.replies.Answered.{Answered}
 use Rattle.shr_model.specs.Places.{is_place}
 use Rattle.shr_model.proofs.PlacesLaws.{is_place_same}
 use Rattle.shr_audit_case.proofs.Firsts.{first_found, found_or_none, none_first}
-use Rattle.shr_report.specs.declared.report.Report.{Report}
-use Rattle.shr_report.specs.Parts.{answer_at, answers_in, answers_of, cited_at, cited_by, serial_of}
+use Rattle.shr_laws.specs.declared.report.Report.{Report}
+use Rattle.shr_laws.specs.Parts.{answer_at, answers_in, answers_of, cited_at, cited_by, serial_of}
 use Rattle.shr_audit_values.proofs.OnceOrder.{not_again}
 use Rattle.shr_model.proofs.Lists.{some_injective}
 

@@ -1,6 +1,6 @@
 -- Lists in the order of their places.
 use Rattle.shr_audit_values.proofs.OnceCommon.{◌≡◌, ℕ, zero, suc, ◌+◌, ◌<◌, List, length, get_or, sym, subst, ◌∙◌, inl, inr, arith, Place, PlaceEnd, AreInOrder, ◌-◌}
-use Rattle.shr_report.specs.WellFormed.{IsPlaceBefore, IsPlaceUpTo}
+use Rattle.shr_laws.specs.WellFormed.{IsPlaceBefore, IsPlaceUpTo}
 use Rattle.shr_audit_case.proofs.Order.{before_up_to}
 
 not_itself : (p : Place) → IsPlaceBefore p p → ⊥

@@ -6,13 +6,14 @@ use Rattle.shr_base.specs.declared.places.Serial.{Serial}
 use Rattle.shr_base.specs.declared.journals.Entry.{Entry}
 use Rattle.shr_base.specs.declared.journals.Entry.TheVariants.{Look}
 use Rattle.shr_base.specs.declared.replies.Reply.TheVariants as reply
-use Rattle.shr_model.specs.Items.{items_from, moved_from}
+use Rattle.shr_model.specs.Items.{items_from}
+use Rattle.shr_model.specs.MovedItems.{moved_from}
 use Rattle.shr_audit_case.specs.declared.values.FoundValue.{FoundValue}
 use Rattle.shr_audit_case.specs.Journals.{values_from}
 use Rattle.shr_audit_case.specs.Values.{value_met}
-use Rattle.shr_report.specs.declared.report.Report.{Report}
-use Rattle.shr_report.specs.Parts.{at, journals_of, reply_at}
-use Rattle.shr_report.specs.ReplyTable.{LendsValue}
+use Rattle.shr_laws.specs.declared.report.Report.{Report}
+use Rattle.shr_laws.specs.Parts.{at, journals_of, reply_at}
+use Rattle.shr_laws.specs.ReplyTable.{LendsValue}
 
 -- the value that the entry with this number found, if the first of these is its
 abbrev pub value_first : ℕ → List FoundValue → Option (List ℕ)

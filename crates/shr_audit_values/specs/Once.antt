@@ -4,8 +4,8 @@ use Rattle.shr_base.specs.declared.ends.PlaceEnd.{PlaceEnd}
 use Rattle.shr_base.specs.declared.places.At.{At}
 use Rattle.shr_base.specs.declared.places.Place.{Place}
 use Rattle.shr_audit_case.specs.Places.{IsFirst}
-use Rattle.shr_report.specs.declared.report.Report.{Report}
-use Rattle.shr_report.specs.Parts.{cited_at, serial_of}
+use Rattle.shr_laws.specs.declared.report.Report.{Report}
+use Rattle.shr_laws.specs.Parts.{cited_at, serial_of}
 
 -- each list that is printed for a place is the first one, so there is one at most
 abbrev pub IsPrintedOnce : List PlaceEnd → Place → Type 0

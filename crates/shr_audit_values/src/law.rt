@@ -3,14 +3,14 @@
 ghost use Rattle.std.specs.Prelude.{IfOk};
 ghost use Rattle.std.specs.Bool.{Decides};
 ghost use Rattle.shr_audit_case.specs.Lists.{IsCaseOf};
-ghost use Rattle.shr_report.specs.Replies.{AreRepliesLawful};
+ghost use Rattle.shr_laws.specs.Replies.{AreRepliesLawful};
 
 use crate::lent::are_values_lent;
 use shr_audit_case::case::Case;
 use shr_audit_replies::law::are_replies_lawful_but_values;
 use shr_base::memory::Memory;
 use shr_base::scripts::Script;
-use shr_report::report::Report;
+use shr_laws::report::Report;
 use std::alloc::Global;
 
 /// Whether the replies of a report are lawful for a script, with the values that hits lend. The

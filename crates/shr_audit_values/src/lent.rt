@@ -5,13 +5,12 @@ ghost use Rattle.std.specs.Bool.{Decides};
 ghost use Rattle.shr_base.specs.declared.objects.Object.{Object};
 ghost use Rattle.shr_base.specs.declared.replies.Reply.TheVariants.{Hit};
 ghost use Rattle.shr_audit_case.specs.Journals.{values_from};
-ghost use Rattle.shr_report.specs.Parts.{at};
+ghost use Rattle.shr_laws.specs.Parts.{at};
 ghost use Rattle.shr_audit_case.specs.Each.{EachFirst};
 ghost use Rattle.shr_audit_case.specs.Lists.{IsCaseOf, IsReplayOf};
 ghost use Rattle.shr_audit_case.specs.Places.{AreInOrder};
 ghost use Rattle.shr_audit_replies.specs.Answers.{AreValuesLent};
-ghost use Rattle.shr_audit_values.specs.Lent.{AreMetLent, AreValuesLentAt, IsLent, IsLentTo};
-ghost use Rattle.shr_audit_values.specs.Lent.{value_first, values_behind};
+ghost use Rattle.shr_audit_values.specs.Lent.{AreMetLent, AreValuesLentAt, IsLent, IsLentTo, value_first, values_behind};
 
 use shr_audit_case::case::Case;
 use shr_audit_case::places::{is_first, journal_at};
@@ -23,7 +22,7 @@ use shr_base::places::{At, Place, Serial};
 use shr_base::replies::Reply;
 use shr_base::scripts::Script;
 use shr_base::text::Text;
-use shr_report::report::Report;
+use shr_laws::report::Report;
 
 // Whether the first of these is what the entry with this number found, and is this value.
 fn is_value_first(found: &[FoundValue], n: usize, value: &Text) -> bool

@@ -3,7 +3,7 @@
 ghost use Rattle.std.specs.Prelude.{◌≡◌, ℕ};
 ghost use Rattle.std.specs.Bool.{Decides};
 ghost use Rattle.shr_audit_case.specs.Places.{AreInOrder};
-ghost use Rattle.shr_report.specs.Parts.{cited_by};
+ghost use Rattle.shr_laws.specs.Parts.{cited_by};
 ghost use Rattle.shr_audit_values.specs.Once.{AreCitedOnce, IsCitedOnceAt, IsPrintedOnce};
 
 use shr_audit_case::places::index_of;
@@ -11,7 +11,7 @@ use shr_audit_replies::numbers::{answer_of, count_answers};
 use shr_base::ends::PlaceEnd;
 use shr_base::places::{At, Place};
 use shr_base::replies::Reply;
-use shr_report::report::Report;
+use shr_laws::report::Report;
 
 // The entry that a reply cites.
 fn cited_by(reply: &Reply) -> Option<At>

@@ -7,7 +7,7 @@ use Rattle.shr_base.specs.declared.replies.Reply.{Reply}
 use Rattle.shr_base.specs.declared.replies.Reply.TheVariants as reply
 use Rattle.shr_base.specs.declared.scripts.Script.{Script}
 use Rattle.shr_model.specs.Families.{items_at}
-use Rattle.shr_report.specs.WalksLawful.{Covers, FillsPlace, was_cleared}
+use Rattle.shr_laws.specs.WalksLawful.{Covers, FillsPlace, was_cleared}
 
 -- ---- one walk
 

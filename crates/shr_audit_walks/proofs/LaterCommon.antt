@@ -25,8 +25,8 @@ pub use Rattle.shr_model.proofs.PlacesLaws.{is_place_itself, is_place_same}
 pub use Rattle.shr_model.specs.Bits.{is_set}
 pub use Rattle.shr_model.specs.Places.{bit_of, is_place, unit_of}
 pub use Rattle.shr_model.specs.Walks.{clearings_of, place_in, versions_at}
-pub use Rattle.shr_report.specs.Parts.{EachWalk, answers_in, at, cited_at, cited_by, journals_of, parents_of, reply_at, serial_of}
-pub use Rattle.shr_report.specs.declared.report.Report.{Report}
+pub use Rattle.shr_laws.specs.Parts.{EachWalk, answers_in, at, cited_at, cited_by, journals_of, parents_of, reply_at, serial_of}
+pub use Rattle.shr_laws.specs.declared.report.Report.{Report}
 pub use Rattle.shr_audit_walks.specs.Cited.{AreHighestCited, IsAboveEntry, IsAboveAt, IsAboveHighest, IsWalkLater, IsOutcomeAbove, IsPartLater, IsWalkAbove, NotesEntry, NotesReply, highest_at}
 pub use Rattle.shr_audit_walks.specs.Cleared.{Clears, HasCleared, HasPlaces, PlaceSet, cleared_by}
 pub use Rattle.shr_audit_walks.specs.Filled.{AreFilled, HasFilled, IsMapFull, IsNoWord, IsPartFilled, IsWalkFull, NotesFilled, filled_at, filled_by, is_filled, word_by_key}

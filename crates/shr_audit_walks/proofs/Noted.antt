@@ -4,7 +4,7 @@ use Rattle.std.specs.Option.{option_or}
 use Rattle.std.proofs.lemmas.List.Elements.{filter-append, filter_map-append}
 use Rattle.std.proofs.lemmas.List.Folds.{find-append}
 use Rattle.shr_model.specs.Scans.{ScanMade, scan_by, scans_by}
-use Rattle.shr_report.specs.Parts.{journal_of}
+use Rattle.shr_laws.specs.Parts.{journal_of}
 use Rattle.shr_audit_case.proofs.Firsts.{found_or_none}
 use Rattle.shr_audit_passes.specs.Scans.{made_of_scan}
 use Rattle.shr_audit_walks.proofs.Keyed.{key_here, key_elsewhere}

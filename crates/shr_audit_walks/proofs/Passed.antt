@@ -5,7 +5,7 @@ use Rattle.shr_base.specs.declared.walks.PassRecord.{PassRecord}
 use Rattle.shr_model.specs.Attempts.{pass_of}
 use Rattle.shr_model.specs.Walks.{passes_at, place_in}
 use Rattle.shr_model.proofs.Members.{Has, Has_from_Contains, Contains_from_Has, Has_flat_map, flat_map_has, each_has}
-use Rattle.shr_report.specs.Parts.{walk_at, walks_in}
+use Rattle.shr_laws.specs.Parts.{walk_at, walks_in}
 use Rattle.shr_audit_walks.proofs.Keyed.{one_pass}
 
 -- the walk with this number of this worker made a pass at the place

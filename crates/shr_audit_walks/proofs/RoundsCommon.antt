@@ -24,11 +24,12 @@ pub use Rattle.shr_base.specs.Walks.{WalkRecord}
 pub use Rattle.shr_audit_formed.proofs.Eachs.{all_at, all_of, clash, more_at}
 pub use Rattle.shr_model.proofs.GroupsLaws.{child_again, child_higher, child_takes, path_of-below, path_of-root, preorder_of-group, subtrees_of}
 pub use Rattle.shr_model.specs.Charges.{is_by, is_refused, ops_by}
-pub use Rattle.shr_model.specs.Groups.{IsAtOrAbove, IsTree, is_child, parent_of, preorder_of}
+pub use Rattle.shr_model.specs.Groups.{IsAtOrAbove, is_child, parent_of, preorder_of}
+pub use Rattle.shr_model.specs.Trees.{IsTree}
 pub use Rattle.shr_model.specs.Walks.{Job, job, job_of}
-pub use Rattle.shr_report.specs.Parts.{EachAnswer, commands_of, limit_of, limits_of, parents_of, serial_of, uses_at, walks_by}
-pub use Rattle.shr_report.specs.WalksLawful.{AreRoundsOfPut, AreWalksOf, MayMake, over_at}
-pub use Rattle.shr_report.specs.declared.report.Report.{Report}
+pub use Rattle.shr_laws.specs.Parts.{EachAnswer, commands_of, limit_of, limits_of, parents_of, serial_of, uses_at, walks_by}
+pub use Rattle.shr_laws.specs.WalksLawful.{AreRoundsOfPut, AreWalksOf, MayMake, over_at}
+pub use Rattle.shr_laws.specs.declared.report.Report.{Report}
 pub use Rattle.shr_audit_walks.specs.Commands.{AreDues, IsAnswerMade, IsCommandMade, IsPartMade, is_whole, over_of}
 pub use Rattle.shr_audit_walks.specs.Orders.{AreOrdersFrom}
 pub use Rattle.shr_audit_walks.specs.Refusals.{AreRefusals, StandByKey, refused_groups, as_refusal, refusals_in, refusals_with, refusal_key}

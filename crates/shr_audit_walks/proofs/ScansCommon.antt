@@ -25,10 +25,10 @@ pub use Rattle.shr_audit_formed.proofs.Eachs.{all_at, clash, each_in, fails, mor
 pub use Rattle.shr_model.proofs.Lists.{flat_all}
 pub use Rattle.shr_model.proofs.PlacesLaws.{is_place_itself, is_place_same}
 pub use Rattle.shr_model.specs.Places.{is_place}
-pub use Rattle.shr_report.specs.LawfulWalk.{IsLawfulWalk}
-pub use Rattle.shr_report.specs.Numbers.{HasNumbers, IsAttemptNumbered, IsEntryNumbered, IsListNumbered, IsPartNumbered, IsWalkNumbered}
-pub use Rattle.shr_report.specs.WellFormed.{IsNumbered}
-pub use Rattle.shr_report.specs.declared.report.Report.{Report}
+pub use Rattle.shr_laws.specs.LawfulWalk.{IsLawfulWalk}
+pub use Rattle.shr_laws.specs.Numbers.{HasNumbers, IsAttemptNumbered, IsEntryNumbered, IsListNumbered, IsPartNumbered, IsWalkNumbered}
+pub use Rattle.shr_laws.specs.WellFormed.{IsNumbered}
+pub use Rattle.shr_laws.specs.declared.report.Report.{Report}
 pub use Rattle.shr_audit_walks.specs.Keys.{key_of, row_key}
 pub use Rattle.shr_audit_walks.specs.Others.{AreOfPasses, IsEntryOfPass}
 pub use Rattle.shr_audit_walks.specs.Passes.{ArePassesOf, key_if, keys_at, keys_in, keys_of_part, keys_of_report}

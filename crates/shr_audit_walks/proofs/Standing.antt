@@ -1,6 +1,6 @@
 -- The walks of a worker, in the order of its commands.
 use Rattle.shr_audit_walks.proofs.LaterCommon.{◌≡◌, ℕ, ◌+◌, ◌<◌, ◌≤◌, List, length, get_or, Some, sym, ap, subst, ◌∙◌, arith, slice_get, WorkerPart, Answered, WalkRecord, Report, found_at, IsWorkerCommand, each_weaker}
-use Rattle.shr_report.specs.WellFormed.{IsWellFormed}
+use Rattle.shr_laws.specs.WellFormed.{IsWellFormed}
 use Rattle.shr_audit_formed.proofs.WellParts.{parts_of}
 use Rattle.shr_audit_walks.specs.LaterWalks.{AreOfAnswers}
 

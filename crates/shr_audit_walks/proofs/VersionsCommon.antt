@@ -6,5 +6,5 @@ pub use Rattle.shr_base.specs.declared.places.Place.{Place}
 pub use Rattle.shr_base.specs.Walks.{WalkRecord}
 pub use Rattle.shr_model.specs.Attempts.{counts_of}
 pub use Rattle.shr_model.specs.Walks.{place_in, versions_at}
-pub use Rattle.shr_report.specs.WellFormed.{AreNotFalling}
+pub use Rattle.shr_laws.specs.WellFormed.{AreNotFalling}
 pub use Rattle.shr_audit_walks.specs.VersionTable.{IsPartRising, NotFallingFrom, NotFallingOn, Notes, Versions, fits, if_here, last_at, place_key, read_as}

@@ -1,8 +1,8 @@
 -- The workers of a report one after another.
 use Rattle.shr_audit_walks.proofs.VersionsCommon.{◌≡◌, ℕ, ◌<◌, ◌≤◌, Bool, true, false, List, length, get_or, flat_map, Option, Some, None, refl, sym, ap, subst, ◌∙◌, arith, slice_get, Decides, WorkerPart, Place, WalkRecord, versions_at, AreNotFalling, IsPartRising}
 use Rattle.std.proofs.lemmas.Option.{slice_get-get_or}
-use Rattle.shr_report.specs.declared.report.Report.{Report}
-use Rattle.shr_report.specs.Parts.{walks_in, walks_of}
+use Rattle.shr_laws.specs.declared.report.Report.{Report}
+use Rattle.shr_laws.specs.Parts.{walks_in, walks_of}
 use Rattle.shr_audit_formed.proofs.Eachs.{all_at, fails}
 
 abbrev pub AllRising : Report → Type 0

@@ -9,11 +9,11 @@ use Rattle.shr_base.specs.declared.walks.MapSeen.{MapSeen}
 use Rattle.shr_model.specs.Bits.{is_set}
 use Rattle.shr_model.specs.Places.{bit_of}
 use Rattle.shr_model.specs.Walks.{versions_at}
-use Rattle.shr_report.specs.declared.report.Report.{Report}
-use Rattle.shr_report.specs.LawfulWalk.{IsLawfulWalk}
-use Rattle.shr_report.specs.Parts.{EachAnswer, EachEntry, EachWalk, at, cited_at, serial_of, walks_by, walks_of}
-use Rattle.shr_report.specs.WalksLawful.{AreWalksLawful, AreWalksOf, Covers, FillsPlace, IsOfPass, IsToldBy, was_cleared}
-use Rattle.shr_report.specs.WellFormed.{AreNotFalling}
+use Rattle.shr_laws.specs.declared.report.Report.{Report}
+use Rattle.shr_laws.specs.LawfulWalk.{IsLawfulWalk}
+use Rattle.shr_laws.specs.Parts.{EachAnswer, EachEntry, EachWalk, at, cited_at, serial_of, walks_by, walks_of}
+use Rattle.shr_laws.specs.WalksLawful.{AreWalksLawful, AreWalksOf, Covers, FillsPlace, IsOfPass, IsToldBy, was_cleared}
+use Rattle.shr_laws.specs.WellFormed.{AreNotFalling}
 
 -- each walk is lawful
 abbrev pub Lawful : Script → Report → Type 0

@@ -12,7 +12,7 @@ use Rattle.shr_base.specs.declared.walks.Outcome.{Outcome}
 use Rattle.shr_audit_formed.specs.Each.{EachItem}
 use Rattle.shr_model.specs.Attempts.{counts_of}
 use Rattle.shr_model.specs.Walks.{place_in, versions_at}
-use Rattle.shr_report.specs.Parts.{at, cited_by}
+use Rattle.shr_laws.specs.Parts.{at, cited_by}
 use Rattle.shr_audit_walks.specs.VersionTable.{Versions, fits, place_key}
 
 -- the highest entry that was cited at a place, if one was

@@ -9,8 +9,8 @@ use Rattle.shr_base.specs.Walks.{Attempt, WalkRecord}
 use Rattle.shr_model.specs.Attempts.{is_clearing}
 use Rattle.shr_model.specs.Places.{is_place}
 use Rattle.shr_model.specs.Walks.{clearings_of, place_in}
-use Rattle.shr_report.specs.declared.report.Report.{Report}
-use Rattle.shr_report.specs.Parts.{all_walks}
+use Rattle.shr_laws.specs.declared.report.Report.{Report}
+use Rattle.shr_laws.specs.Parts.{all_walks}
 use Rattle.shr_audit_walks.specs.VersionTable.{fits, place_key}
 
 -- a set of places by their numbers

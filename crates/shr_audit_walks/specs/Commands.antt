@@ -13,7 +13,7 @@ use Rattle.shr_base.specs.declared.scripts.Script.{Script}
 use Rattle.shr_base.specs.Walks.{WalkRecord}
 use Rattle.shr_model.specs.Commands.{jobs_of}
 use Rattle.shr_model.specs.Walks.{Job}
-use Rattle.shr_report.specs.Parts.{parents_of, serial_of}
+use Rattle.shr_laws.specs.Parts.{parents_of, serial_of}
 use Rattle.shr_audit_passes.specs.Commands.{walks_with}
 use Rattle.shr_audit_walks.specs.declared.commands.Dues.{Dues}
 use Rattle.shr_audit_walks.specs.declared.refusals.Refusal.{Refusal}

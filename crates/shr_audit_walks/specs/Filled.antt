@@ -14,9 +14,9 @@ use Rattle.shr_audit_formed.specs.Each.{EachItem}
 use Rattle.shr_model.specs.Bits.{is_set}
 use Rattle.shr_model.specs.Families.{items_at}
 use Rattle.shr_model.specs.Places.{bit_of, is_place, unit_of}
-use Rattle.shr_report.specs.declared.report.Report.{Report}
-use Rattle.shr_report.specs.Parts.{at, journals_of}
-use Rattle.shr_report.specs.WalksLawful.{Covers, was_cleared}
+use Rattle.shr_laws.specs.declared.report.Report.{Report}
+use Rattle.shr_laws.specs.Parts.{at, journals_of}
+use Rattle.shr_laws.specs.WalksLawful.{Covers, was_cleared}
 use Rattle.shr_audit_lists.specs.Words.{Words, word_key}
 use Rattle.shr_audit_walks.specs.VersionTable.{fits, read_as}
 

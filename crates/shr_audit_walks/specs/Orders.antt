@@ -1,7 +1,8 @@
 -- The preorders of groups, that of the last group first. No public clause cites this.
 use Rattle.std.specs.declared.alloc.Global.{Global}
 use Rattle.std.specs.Prelude.{◌≡◌, ℕ, ◌+◌, ◌-◌, ◌<◌, ◌≤◌, List, length, slice_get, flat_map, Some, Vec}
-use Rattle.shr_model.specs.Groups.{IsTree, children_of, preorder_of}
+use Rattle.shr_model.specs.Trees.{IsTree}
+use Rattle.shr_model.specs.Groups.{children_of, preorder_of}
 use Rattle.shr_audit_walks.specs.declared.orders.Subtrees.{Subtrees}
 
 -- of each group from one on, that of the last group first, this is the preorder

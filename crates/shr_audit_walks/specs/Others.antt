@@ -3,7 +3,7 @@ use Rattle.std.specs.Prelude.{◌<◌, List, Contains, ⊤}
 use Rattle.shr_base.specs.declared.journals.Entry.{Entry}
 use Rattle.shr_base.specs.declared.journals.Entry.TheVariants.{Scan}
 use Rattle.shr_base.specs.declared.places.Place.{Place}
-use Rattle.shr_report.specs.declared.report.Report.{Report}
+use Rattle.shr_laws.specs.declared.report.Report.{Report}
 use Rattle.shr_model.specs.Isolations.{first_isolation}
 use Rattle.shr_audit_formed.specs.Each.{EachItem}
 use Rattle.shr_audit_walks.specs.Keys.{key_of}

@@ -5,7 +5,7 @@ use Rattle.shr_base.specs.declared.journals.UseStep.{UseStep}
 use Rattle.shr_base.specs.declared.places.Serial.{Serial}
 use Rattle.shr_base.specs.declared.scripts.Script.{Script}
 use Rattle.shr_model.specs.Charges.{is_refused}
-use Rattle.shr_report.specs.Parts.{limit_of}
+use Rattle.shr_laws.specs.Parts.{limit_of}
 use Rattle.shr_audit_walks.specs.declared.refusals.Refusal.{Refusal}
 
 -- the numbers of a worker and of its command as one

@@ -6,7 +6,7 @@ use Rattle.shr_base.specs.declared.journals.Entry.{Entry}
 use Rattle.shr_base.specs.declared.journals.Entry.TheVariants.{Scan}
 use Rattle.shr_base.specs.declared.places.Place.{Place}
 use Rattle.shr_model.specs.Scans.{scans_by}
-use Rattle.shr_report.specs.WellFormed.{IsNumbered}
+use Rattle.shr_laws.specs.WellFormed.{IsNumbered}
 use Rattle.shr_audit_case.specs.Lists.{journals_in}
 use Rattle.shr_audit_case.specs.Places.{IsFirst}
 use Rattle.shr_audit_passes.specs.declared.scans.ScanSeen.{ScanSeen}

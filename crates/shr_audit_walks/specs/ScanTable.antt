@@ -1,6 +1,6 @@
 -- The Scan entries of a report by their passes.
 use Rattle.std.specs.List.Sorted.{IsNonDecreasingBy}
-use Rattle.shr_report.specs.declared.report.Report.{Report}
+use Rattle.shr_laws.specs.declared.report.Report.{Report}
 use Rattle.shr_audit_walks.specs.declared.scan_table.Scans.{Scans}
 use Rattle.shr_audit_walks.specs.Keys.{row_key}
 use Rattle.shr_audit_walks.specs.ScanRows.{AreRowsOf}

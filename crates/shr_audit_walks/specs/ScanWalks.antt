@@ -7,9 +7,9 @@ use Rattle.shr_base.specs.declared.walks.PassRecord.{PassRecord}
 use Rattle.shr_model.specs.Attempts.{pass_of}
 use Rattle.shr_model.specs.Scans.{scans_by}
 use Rattle.shr_model.specs.Walks.{place_in}
-use Rattle.shr_report.specs.declared.report.Report.{Report}
-use Rattle.shr_report.specs.LawfulWalk.{AreScansOf, IsLawfulWalk, cache_of}
-use Rattle.shr_report.specs.Parts.{journals_of}
+use Rattle.shr_laws.specs.declared.report.Report.{Report}
+use Rattle.shr_laws.specs.LawfulWalk.{AreScansOf, IsLawfulWalk, cache_of}
+use Rattle.shr_laws.specs.Parts.{journals_of}
 use Rattle.shr_audit_case.specs.Lists.{IsCaseOf}
 use Rattle.shr_audit_case.specs.Met.{IsMetIn}
 use Rattle.shr_audit_walks.specs.declared.scan_walks.Known.{Known}

@@ -7,7 +7,7 @@ use Rattle.shr_base.specs.declared.ends.WorkerPart.{WorkerPart}
 use Rattle.shr_base.specs.declared.places.Place.{Place}
 use Rattle.shr_model.specs.Places.{is_place}
 use Rattle.shr_model.specs.Walks.{versions_at}
-use Rattle.shr_report.specs.WellFormed.{AreNotFalling}
+use Rattle.shr_laws.specs.WellFormed.{AreNotFalling}
 
 -- a place by one number
 abbrev pub place_key : Place → ℕ

@@ -5,7 +5,7 @@ ghost use Rattle.std.specs.Bool.{Decides};
 ghost use Rattle.std.specs.List.{AllByRecursion};
 ghost use Rattle.shr_base.specs.declared.places.Place.{Place};
 ghost use Rattle.shr_base.specs.declared.replies.Answered.{Answered};
-ghost use Rattle.shr_report.specs.Parts.{at};
+ghost use Rattle.shr_laws.specs.Parts.{at};
 ghost use Rattle.shr_audit_walks.specs.Cited.{AreHighestCited, IsAboveHighest, NotesCited, NotesReply};
 ghost use Rattle.shr_audit_walks.specs.VersionTable.{IsBlank};
 

@@ -3,7 +3,7 @@
 ghost use Rattle.std.specs.Prelude.{◌≡◌, flat_map, OnOk, IfOk};
 ghost use Rattle.shr_model.specs.Attempts.{is_clearing};
 ghost use Rattle.shr_model.specs.Walks.{clearings_of};
-ghost use Rattle.shr_report.specs.WalksLawful.{was_cleared};
+ghost use Rattle.shr_laws.specs.WalksLawful.{was_cleared};
 ghost use Rattle.shr_audit_walks.specs.Cleared.{Clears, HasCleared, cleared_by};
 
 use crate::version_table::place_key;
@@ -12,7 +12,7 @@ use shr_base::attempts::Attempt;
 use shr_base::memory::Memory;
 use shr_base::places::Place;
 use shr_base::walks::{GoneThen, Outcome, WalkRecord};
-use shr_report::report::Report;
+use shr_laws::report::Report;
 use std::alloc::Global;
 use std::collections::HashSet;
 

@@ -5,11 +5,11 @@ ghost use Rattle.std.specs.Bool.{Decides};
 ghost use Rattle.std.specs.List.{AllByRecursion};
 ghost use Rattle.shr_audit_walks.specs.declared.refusals.Refusal.{Refusal};
 ghost use Rattle.shr_audit_passes.specs.Commands.{StandByCommand};
-ghost use Rattle.shr_model.specs.Groups.{IsTree};
-ghost use Rattle.shr_report.specs.Numbers.{HasNumbers};
-ghost use Rattle.shr_report.specs.Parts.{EachAnswer, commands_of, parents_of};
-ghost use Rattle.shr_report.specs.WalksLawful.{AreWalksOf};
-ghost use Rattle.shr_report.specs.WellFormed.{IsWellFormed};
+ghost use Rattle.shr_model.specs.Trees.{IsTree};
+ghost use Rattle.shr_laws.specs.Numbers.{HasNumbers};
+ghost use Rattle.shr_laws.specs.Parts.{EachAnswer, commands_of, parents_of};
+ghost use Rattle.shr_laws.specs.WalksLawful.{AreWalksOf};
+ghost use Rattle.shr_laws.specs.WellFormed.{IsWellFormed};
 ghost use Rattle.shr_audit_walks.specs.Commands.{AreDues, CanBeDue, IsAnswerMade, IsCommandMade, IsPartMade};
 ghost use Rattle.shr_audit_walks.specs.Refusals.{refused_groups};
 ghost use Rattle.shr_audit_walks.specs.RoundRows.{jobs_made};
@@ -26,7 +26,7 @@ use shr_base::places::Serial;
 use shr_base::replies::Reply;
 use shr_base::scripts::{Command, Script};
 use shr_base::walks::WalkRecord;
-use shr_report::report::Report;
+use shr_laws::report::Report;
 use std::alloc::Global;
 
 /// What the walks of commands are due by: the nodes, the groups, and the charges that were refused,

@@ -14,7 +14,7 @@ use shr_base::memory::Memory;
 use shr_base::places::{At, Place};
 use shr_base::replies::{Answered, Reply};
 use shr_base::walks::{MapSeen, WalkRecord};
-use shr_report::report::Report;
+use shr_laws::report::Report;
 use std::alloc::Global;
 use std::collections::{HashMap, HashSet};
 use std::ops::Range;

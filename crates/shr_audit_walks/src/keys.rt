@@ -1,7 +1,7 @@
 //! The passes of walks by one number each.
 
 ghost use Rattle.std.specs.Prelude.{◌≡◌, ◌<◌, ◌^◌};
-ghost use Rattle.shr_report.specs.WellFormed.{IsNumbered};
+ghost use Rattle.shr_laws.specs.WellFormed.{IsNumbered};
 ghost use Rattle.shr_audit_walks.specs.Keys.{key_of};
 
 use shr_base::places::Place;

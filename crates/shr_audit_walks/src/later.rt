@@ -5,8 +5,8 @@ ghost use Rattle.std.specs.Bool.{Decides};
 ghost use Rattle.std.specs.List.{AllByRecursion};
 ghost use Rattle.shr_base.specs.declared.places.Place.{Place};
 ghost use Rattle.shr_model.specs.Walks.{versions_at};
-ghost use Rattle.shr_report.specs.Parts.{at, cited_at, serial_of, EachWalk};
-ghost use Rattle.shr_report.specs.WellFormed.{IsWellFormed};
+ghost use Rattle.shr_laws.specs.Parts.{at, cited_at, serial_of, EachWalk};
+ghost use Rattle.shr_laws.specs.WellFormed.{IsWellFormed};
 ghost use Rattle.shr_audit_walks.specs.Cited.{AreBothAbove, IsOutcomeAbove, IsPartLater, IsWalkAbove};
 ghost use Rattle.shr_audit_walks.specs.LaterWalks.{AreOfAnswers};
 
@@ -16,7 +16,7 @@ use shr_base::ends::WorkerPart;
 use shr_base::memory::Memory;
 use shr_base::places::Place;
 use shr_base::walks::{Outcome, WalkRecord};
-use shr_report::report::Report;
+use shr_laws::report::Report;
 use std::alloc::Global;
 use std::collections::HashMap;
 

@@ -4,12 +4,13 @@ ghost use Rattle.std.specs.Prelude.{◌≡◌, ◌<◌, ◌≤◌, ◌^◌, ℕ,
 ghost use Rattle.std.specs.Bool.{Decides};
 ghost use Rattle.shr_audit_case.specs.Lists.{IsCaseOf};
 ghost use Rattle.shr_audit_case.specs.Places.{AreInOrder};
-ghost use Rattle.shr_model.specs.Groups.{IsTree, preorder_of};
-ghost use Rattle.shr_report.specs.LawfulWalk.{IsLawfulWalk};
-ghost use Rattle.shr_report.specs.Numbers.{HasNumbers};
-ghost use Rattle.shr_report.specs.Parts.{EachAnswer, EachWalk, commands_of, parents_of, walks_by};
-ghost use Rattle.shr_report.specs.WalksLawful.{AreWalksLawful, IsToldBy};
-ghost use Rattle.shr_report.specs.WellFormed.{IsWellFormed};
+ghost use Rattle.shr_model.specs.Trees.{IsTree};
+ghost use Rattle.shr_model.specs.Groups.{preorder_of};
+ghost use Rattle.shr_laws.specs.LawfulWalk.{IsLawfulWalk};
+ghost use Rattle.shr_laws.specs.Numbers.{HasNumbers};
+ghost use Rattle.shr_laws.specs.Parts.{EachAnswer, EachWalk, commands_of, parents_of, walks_by};
+ghost use Rattle.shr_laws.specs.WalksLawful.{AreWalksLawful, IsToldBy};
+ghost use Rattle.shr_laws.specs.WellFormed.{IsWellFormed};
 
 use crate::bits::are_bits_seen;
 use crate::commands::are_walks_made;
@@ -25,7 +26,7 @@ use shr_audit_case::serials::parents_of;
 use shr_audit_passes::commands::are_told;
 use shr_base::memory::Memory;
 use shr_base::scripts::Script;
-use shr_report::report::Report;
+use shr_laws::report::Report;
 use std::alloc::Global;
 
 // Whether each walk is lawful.

@@ -1,7 +1,8 @@
 //! The preorder of each group.
 
 ghost use Rattle.std.specs.Prelude.{◌≡◌, ◌+◌, ◌<◌, ◌≤◌, ◌++◌, length, IfOk, OnOk};
-ghost use Rattle.shr_model.specs.Groups.{IsTree, preorder_of};
+ghost use Rattle.shr_model.specs.Trees.{IsTree};
+ghost use Rattle.shr_model.specs.Groups.{preorder_of};
 ghost use Rattle.shr_audit_walks.specs.Orders.{AreOrdersFrom, AreSubtrees, subtrees_of};
 
 use shr_base::memory::Memory;

@@ -4,10 +4,10 @@ ghost use Rattle.std.specs.Prelude.{◌≡◌, ◌<◌, length, slice_get, Some,
 ghost use Rattle.std.specs.Bool.{Decides};
 ghost use Rattle.shr_base.specs.declared.ends.PlaceEnd.{PlaceEnd};
 ghost use Rattle.shr_audit_case.specs.Places.{AreInOrder, IsFirst};
-ghost use Rattle.shr_report.specs.Numbers.{HasNumbers};
-ghost use Rattle.shr_report.specs.Parts.{EachEntry};
-ghost use Rattle.shr_report.specs.WalksLawful.{IsOfPass};
-ghost use Rattle.shr_report.specs.declared.report.Report.{Report};
+ghost use Rattle.shr_laws.specs.Numbers.{HasNumbers};
+ghost use Rattle.shr_laws.specs.Parts.{EachEntry};
+ghost use Rattle.shr_laws.specs.WalksLawful.{IsOfPass};
+ghost use Rattle.shr_laws.specs.declared.report.Report.{Report};
 ghost use Rattle.shr_audit_walks.specs.Others.{AreOfPasses, IsEntryOfPass};
 ghost use Rattle.shr_audit_walks.specs.Passes.{ArePassesOf};
 
@@ -17,7 +17,7 @@ use shr_base::ends::PlaceEnd;
 use shr_base::journals::Entry;
 use shr_base::memory::Memory;
 use shr_base::places::Place;
-use shr_report::report::Report;
+use shr_laws::report::Report;
 use std::alloc::Global;
 
 // Whether an entry of a place is of a pass there, if it is a Scan of a walk.

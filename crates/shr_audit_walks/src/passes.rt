@@ -3,7 +3,7 @@
 ghost use Rattle.std.specs.Prelude.{◌≡◌, ◌≤◌, ◌^◌, ◌++◌, length, Contains, IfOk, OnOk};
 ghost use Rattle.std.specs.Bool.{Decides};
 ghost use Rattle.std.specs.List.Sorted.{IsNonDecreasing, IsPermutation};
-ghost use Rattle.shr_report.specs.declared.report.Report.{Report};
+ghost use Rattle.shr_laws.specs.declared.report.Report.{Report};
 ghost use Rattle.shr_audit_walks.specs.Keys.{key_of};
 ghost use Rattle.shr_audit_walks.specs.Passes.{ArePassesOf, keys_at, keys_in, keys_of_part, keys_of_report};
 
@@ -13,7 +13,7 @@ use shr_base::attempts::Attempt;
 use shr_base::memory::Memory;
 use shr_base::places::Place;
 use shr_base::walks::WalkRecord;
-use shr_report::report::Report;
+use shr_laws::report::Report;
 use std::alloc::Global;
 
 /// The passes of a report, by their keys in order. Our own.

@@ -4,7 +4,8 @@ ghost use Rattle.std.specs.Prelude.{◌≡◌, ◌<◌, ℕ, List, true, false, 
 ghost use Rattle.std.specs.Bool.{Decides};
 ghost use Rattle.std.specs.List.{AllByRecursion};
 ghost use Rattle.shr_audit_walks.specs.declared.refusals.Refusal.{Refusal};
-ghost use Rattle.shr_model.specs.Groups.{IsAtOrAbove, IsTree, parent_of};
+ghost use Rattle.shr_model.specs.Groups.{IsAtOrAbove, parent_of};
+ghost use Rattle.shr_model.specs.Trees.{IsTree};
 ghost use Rattle.shr_audit_walks.specs.Commands.{is_whole, over_of};
 ghost use Rattle.shr_audit_walks.specs.Orders.{AreSubtrees};
 ghost use Rattle.shr_audit_walks.specs.Refusals.{refused_groups};

@@ -3,7 +3,7 @@
 ghost use Rattle.std.specs.Prelude.{◌≡◌, ◌<◌, ◌≤◌, ◌^◌, ◌++◌, [], ◌∷◌, ℕ, length, slice_get, Some, IfOk, OnOk};
 ghost use Rattle.shr_audit_walks.specs.declared.refusals.Refusal.{Refusal};
 ghost use Rattle.shr_model.specs.Charges.{is_refused};
-ghost use Rattle.shr_report.specs.Parts.{limit_of};
+ghost use Rattle.shr_laws.specs.Parts.{limit_of};
 ghost use Rattle.shr_audit_walks.specs.Refusals.{AreRefusals, StandByKey, refusals_in, refusals_with, refusal_key};
 
 use shr_base::journals::UseStep;

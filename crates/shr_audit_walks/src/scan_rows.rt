@@ -2,7 +2,7 @@
 
 ghost use Rattle.std.specs.Prelude.{◌≡◌, ◌<◌, ◌++◌, length, IfOk, OnOk};
 ghost use Rattle.shr_audit_case.specs.Places.{AreInOrder};
-ghost use Rattle.shr_report.specs.Numbers.{HasNumbers};
+ghost use Rattle.shr_laws.specs.Numbers.{HasNumbers};
 ghost use Rattle.shr_audit_walks.specs.ScanRows.{AreRowsOf, AddsRowsOf, scan_row, rows_of, rows_with};
 
 use shr_audit_case::places::is_first;
@@ -11,7 +11,7 @@ use shr_base::ends::PlaceEnd;
 use shr_base::journals::Entry;
 use shr_base::memory::Memory;
 use shr_base::places::Place;
-use shr_report::report::Report;
+use shr_laws::report::Report;
 use std::alloc::Global;
 
 // Notes an entry of a place, if it is a Scan.

@@ -4,9 +4,9 @@ ghost use Rattle.std.specs.Prelude.{◌≡◌, ℕ, ◌<◌, ◌≤◌, ◌==◌
 ghost use Rattle.std.specs.List.Sorted.{IsNonDecreasingBy};
 ghost use Rattle.shr_model.specs.Scans.{scans_by};
 ghost use Rattle.shr_audit_case.specs.Places.{AreInOrder};
-ghost use Rattle.shr_report.specs.declared.report.Report.{Report};
-ghost use Rattle.shr_report.specs.Numbers.{HasNumbers};
-ghost use Rattle.shr_report.specs.Parts.{journals_of};
+ghost use Rattle.shr_laws.specs.declared.report.Report.{Report};
+ghost use Rattle.shr_laws.specs.Numbers.{HasNumbers};
+ghost use Rattle.shr_laws.specs.Parts.{journals_of};
 ghost use Rattle.shr_audit_passes.specs.declared.scans.ScanSeen.{ScanSeen};
 ghost use Rattle.shr_audit_passes.specs.Scans.{made_of_scan};
 ghost use Rattle.shr_audit_walks.specs.Keys.{row_key};
@@ -18,7 +18,7 @@ use crate::scan_rows::rows_of;
 use shr_audit_passes::scans::ScanSeen;
 use shr_base::memory::Memory;
 use shr_base::places::Place;
-use shr_report::report::Report;
+use shr_laws::report::Report;
 use std::alloc::Global;
 
 /// The Scan entries of a report, those of one pass together and in the order of the journal. Our

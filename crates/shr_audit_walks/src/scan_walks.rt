@@ -4,9 +4,9 @@ ghost use Rattle.std.specs.Prelude.{◌≡◌, IfOk, map};
 ghost use Rattle.std.specs.Bool.{Decides};
 ghost use Rattle.shr_model.specs.Walks.{place_in};
 ghost use Rattle.shr_audit_formed.specs.Each.{EachItem};
-ghost use Rattle.shr_report.specs.LawfulWalk.{AreScansOf, IsLawfulWalk};
-ghost use Rattle.shr_report.specs.Numbers.{HasNumbers};
-ghost use Rattle.shr_report.specs.Parts.{EachWalk};
+ghost use Rattle.shr_laws.specs.LawfulWalk.{AreScansOf, IsLawfulWalk};
+ghost use Rattle.shr_laws.specs.Numbers.{HasNumbers};
+ghost use Rattle.shr_laws.specs.Parts.{EachWalk};
 ghost use Rattle.shr_audit_passes.specs.Scans.{made_of_scan};
 ghost use Rattle.shr_audit_walks.specs.ScanWalks.{AreLawful, IsCaseKnown, IsScannedAt};
 
@@ -24,7 +24,7 @@ use shr_base::memory::Memory;
 use shr_base::places::Place;
 use shr_base::scripts::{CacheDecl, Script};
 use shr_base::walks::{PassRecord, WalkRecord};
-use shr_report::report::Report;
+use shr_laws::report::Report;
 use std::alloc::Global;
 
 /// What is known of a report before its walks are tested: what its journals leave, which declaration

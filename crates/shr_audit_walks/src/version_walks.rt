@@ -5,7 +5,7 @@ ghost use Rattle.std.specs.Bool.{Decides};
 ghost use Rattle.shr_base.specs.declared.places.Place.{Place};
 ghost use Rattle.shr_model.specs.Attempts.{counts_of};
 ghost use Rattle.shr_model.specs.Walks.{place_in, versions_at};
-ghost use Rattle.shr_report.specs.WellFormed.{AreNotFalling};
+ghost use Rattle.shr_laws.specs.WellFormed.{AreNotFalling};
 ghost use Rattle.shr_audit_walks.specs.VersionTable.{if_here, Notes};
 
 use crate::version_table::{no_versions, note, note_two};

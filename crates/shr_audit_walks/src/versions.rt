@@ -4,12 +4,12 @@ ghost use Rattle.std.specs.Prelude.{◌≡◌, ℕ, flat_map, IfOk};
 ghost use Rattle.std.specs.Bool.{Decides};
 ghost use Rattle.shr_base.specs.declared.places.Place.{Place};
 ghost use Rattle.shr_model.specs.Walks.{versions_at};
-ghost use Rattle.shr_report.specs.Parts.{walks_of};
-ghost use Rattle.shr_report.specs.WellFormed.{AreNotFalling};
+ghost use Rattle.shr_laws.specs.Parts.{walks_of};
+ghost use Rattle.shr_laws.specs.WellFormed.{AreNotFalling};
 
 use crate::version_walks::walks_never_fall;
 use shr_base::memory::Memory;
-use shr_report::report::Report;
+use shr_laws::report::Report;
 use std::alloc::Global;
 
 /// Whether the counts of each worker at each place have versions that never fall. Our own.

@@ -1,7 +1,7 @@
 //! The records of walks and of the passes that they make.
 
 ghost use Rattle.std.specs.Prelude.{◌≡◌};
-ghost use Rattle.shr_base.specs.Walks.{walk_record};
+ghost use Rattle.shr_base.specs.WalkParts.{walk_record};
 
 use crate::attempts::Attempt;
 use crate::found::Found;
@@ -156,7 +156,8 @@ pub struct WalkRecord {
 }
 
 impl Model for WalkRecord {
-    ghost use Rattle.shr_base.specs.Walks.{WalkRecord as Walked, walk_record, answer_in, IsToldWithin};
+    ghost use Rattle.shr_base.specs.Walks.{WalkRecord as Walked};
+    ghost use Rattle.shr_base.specs.WalkParts.{walk_record, answer_in, IsToldWithin};
 
     ghost Value = { Walked };
 

@@ -18,7 +18,8 @@ pub use Rattle.shr_base.specs.declared.journals.TreeEntry.TheVariants.{Begin, Do
 pub use Rattle.shr_base.specs.declared.journals.UseStep.{UseStep}
 pub use Rattle.shr_base.specs.declared.places.Serial.{Serial}
 pub use Rattle.shr_model.specs.Charges.{IsBelow, IsChargeHistory, IsNextUse, downs, ups}
-pub use Rattle.shr_model.specs.Groups.{Hierarchy, IsAtOrAbove, IsHierarchy, IsTree, depth_of, is_child, is_later, parent_of, path_of}
+pub use Rattle.shr_model.specs.Groups.{Hierarchy, IsAtOrAbove, is_child, is_later, parent_of, path_of}
+pub use Rattle.shr_model.specs.Trees.{IsHierarchy, IsTree, depth_of}
 pub use Rattle.shr_model.specs.TreeJournal.{IsTreeJournal, MayBeDone, MayBeMade, MayBegin, MayFollow, begin_of, done_of, is_begin, is_done, is_made, is_making, is_undone_child, made_of}
 pub use Rattle.shr_seats.proofs.Seating.{AreSeats-first, AreSeats-join, AreSeats-split, not_gone, sum_by-sole}
 pub use Rattle.shr_seats.proofs.Sums.{Each-push, Each-set, Each-weaker, range_same, sum_by-changed, sum_by-joined, sum_by-map, sum_by-more, term_le, terms_le}

@@ -2,7 +2,8 @@
 
 ghost use Rattle.std.specs.Prelude.{◌≡◌, ℕ, ◌+◌, ◌*◌, ◌/◌, ◌%◌, ◌^◌, ◌<◌, ◌≤◌, ◌↔◌, true, false, length, All, IsTrue, pos, ◌<ℤ◌, ◌&&◌, ◌==◌};
 ghost use Rattle.shr_model.specs.Charges.{IsBelow};
-ghost use Rattle.shr_model.specs.Groups.{parent_of, depth_of};
+ghost use Rattle.shr_model.specs.Groups.{parent_of};
+ghost use Rattle.shr_model.specs.Trees.{depth_of};
 ghost use Rattle.shr_charge.specs.Charging.{call_count, shape_limit, Charges, UnchargesOne, IsLaterThan};
 ghost use Rattle.shr_charge.specs.Loops.{Climbs, Lowers};
 ghost use Rattle.shr_charge.specs.Paths.{path_to};

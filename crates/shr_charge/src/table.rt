@@ -1,7 +1,7 @@
 //! The table and its seats.
 
 ghost use Rattle.std.specs.Prelude.{◌≡◌, ◌+◌, ◌*◌, ◌≤◌, length};
-ghost use Rattle.shr_model.specs.Groups.{IsTree, IsHierarchy};
+ghost use Rattle.shr_model.specs.Trees.{IsTree, IsHierarchy};
 ghost use Rattle.shr_seats.specs.Shapes.{hierarchy_of};
 
 use crate::law::Law;

@@ -24,12 +24,16 @@ pub use Rattle.shr_model.proofs.GroupsLaws.{child_higher, child_takes}
 pub use Rattle.shr_model.proofs.Members.{Contains_from_Has, Has, Has_from_Contains}
 pub use Rattle.shr_model.proofs.Numbers.{later}
 pub use Rattle.shr_model.proofs.PoolLaws.{IsPoolJournal_none, IsPoolJournal_push, Numbered, and_false, decl_at_push_high, decl_at_push_low, decl_from_push, dying_none, ended_later, ended_none, ended_push, from_from_push, met_after, number_from_push, one_of, or_else, phase_of_push, registrations_else}
-pub use Rattle.shr_model.specs.Families.{IsAllowed, IsBornAt, IsLegal, MayStand, before_closed, items_at, items_given, items_of, lists_moved_at, moved_by, moved_in}
-pub use Rattle.shr_model.specs.Groups.{IsTree, is_child, parent_of}
+pub use Rattle.shr_model.specs.Families.{IsAllowed, IsBornAt, IsLegal, MayStand, before_closed, items_at, items_given, items_of, lists_moved_at, moved_in}
+pub use Rattle.shr_model.specs.MovedItems.{moved_by}
+pub use Rattle.shr_model.specs.Trees.{IsTree}
+pub use Rattle.shr_model.specs.Groups.{is_child, parent_of}
 pub use Rattle.shr_model.specs.Items.{HasJournal, IsOutcome, after_drop, dropped_of, freed_by, is_closed, is_closing, items_from, step}
 pub use Rattle.shr_model.specs.Objects.{change_first, fresh, holds, is_named, marked_object, named_in, pinned_object, unmarked_object, without_first}
-pub use Rattle.shr_model.specs.Places.{at_group, place_number}
-pub use Rattle.shr_model.specs.Pool.{HaveEndedBy, IsNextPool, IsPoolJournal, decl_after, decl_at, decl_of, dying_in, from_after, from_of, is_before, is_free, is_live, is_live_decl, last_number, lowest_idle, number_after, phase_of, registrations}
+pub use Rattle.shr_model.specs.Places.{at_group}
+pub use Rattle.shr_model.specs.PlaceNumbers.{place_number}
+pub use Rattle.shr_model.specs.PoolEnds.{HaveEndedBy, dying_in}
+pub use Rattle.shr_model.specs.Pool.{IsNextPool, IsPoolJournal, decl_after, decl_at, decl_of, from_after, from_of, is_before, is_free, is_live, is_live_decl, last_number, lowest_idle, number_after, phase_of, registrations}
 pub use Rattle.shr_seats.proofs.Lining.{AreSo-push, counted_once, in_order, lined_do, lined_first, lined_join, lined_keep, lined_sole, lined_split, set_there, state_after_push}
 pub use Rattle.shr_seats.proofs.Seating.{AreSeats-first, AreSeats-join, AreSeats-split, sole}
 pub use Rattle.shr_seats.proofs.Sums.{from_map}

@@ -10,10 +10,11 @@ use Rattle.shr_base.specs.declared.objects.Object.{Object}
 use Rattle.shr_base.specs.declared.journals.Entry.{Entry}
 use Rattle.shr_base.specs.declared.journals.PoolEntry.{PoolEntry}
 use Rattle.shr_base.specs.declared.journals.PoolEntry.TheVariants.{Registered, Unregistered, Idle}
-use Rattle.shr_model.specs.Places.{place_number}
+use Rattle.shr_model.specs.PlaceNumbers.{place_number}
 use Rattle.shr_model.specs.Items.{is_closed}
 use Rattle.shr_model.specs.Families.{Family, moved_in, items_at, IsLegal}
-use Rattle.shr_model.specs.Pool.{phase_of, decl_of, last_number, from_of, is_live, dying_in, registrations, HaveEndedBy, decl_at, end_of, is_before, IsPoolJournal}
+use Rattle.shr_model.specs.Pool.{phase_of, decl_of, last_number, from_of, is_live, registrations, decl_at, end_of, is_before, IsPoolJournal}
+use Rattle.shr_model.specs.PoolEnds.{dying_in, HaveEndedBy}
 use Rattle.shr_list.specs.Listed.{Listed}
 use Rattle.shr_seats.specs.Views.{Each}
 use Rattle.shr_seats.specs.Standing.{Standing, at_first, at_split, at_end, AreSeats, AreEmptied}

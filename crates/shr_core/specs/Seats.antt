@@ -1,7 +1,7 @@
 -- What contracts see of a seat.
 use Rattle.std.specs.Prelude.{◌≡◌, ◌⊎◌, ℕ, ◌/◌, ◌%◌, ◌<◌, List, [], ◌∷◌, map, length, Option, Some, None, true}
 use Rattle.atomic_table.specs.Table.{rest}
-use Rattle.shr_model.specs.Places.{place_number}
+use Rattle.shr_model.specs.PlaceNumbers.{place_number}
 use Rattle.shr_model.specs.Groups.{is_child}
 use Rattle.shr_model.specs.Pool.{phase_of, decl_of}
 use Rattle.shr_base.specs.declared.journals.PoolEntry.{PoolEntry}

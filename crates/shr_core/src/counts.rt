@@ -1,6 +1,6 @@
 //! Count words and bit words.
 ghost use Rattle.std.specs.Prelude.{◌≡◌, ◌/◌, ◌*◌, ◌^◌, ◌<◌, MatchBool};
-ghost use Rattle.shr_model.specs.Places.{place_number};
+ghost use Rattle.shr_model.specs.PlaceNumbers.{place_number};
 ghost use Rattle.shr_seats.specs.Rows.{row_count};
 ghost use Rattle.shr_core.specs.Layout.{map_number, row_in};
 ghost use Rattle.shr_seats.specs.Shapes.{sizes_of, groups_in};

@@ -3,7 +3,7 @@ ghost use Rattle.std.specs.Prelude.{◌≡◌, ℕ, ◌+◌, ◌*◌, ◌<◌, �
 ghost use Rattle.std.specs.Mem.Slots.{slots_items, slots_filled, slots_len, IsFull};
 ghost use Rattle.std.specs.Mem.Slots.Ownership.{Filled};
 ghost use Rattle.shr_seats.specs.Rows.{row_count};
-ghost use Rattle.shr_model.specs.Places.{place_number};
+ghost use Rattle.shr_model.specs.PlaceNumbers.{place_number};
 ghost use Rattle.shr_core.specs.Layout.{places_in, bits_in, looks_in, words_in};
 ghost use Rattle.shr_core.specs.Ending.{AreNarrow, end_value, place_ends, ends_below, lookups_below, units_below, groups_below, nodes_below, entries_in, items_in};
 

@@ -1,7 +1,8 @@
 //! The pool's room, and the phases of ids.
 ghost use Rattle.std.specs.Prelude.{◌≡◌, ◌-◌, ◌*◌, ◌^◌, ◌<◌, ◌≤◌, [], MatchBool, false, length};
 ghost use Rattle.atomic_table.specs.Table.{rest};
-ghost use Rattle.shr_model.specs.Pool.{decl_of, dying_in};
+ghost use Rattle.shr_model.specs.Pool.{decl_of};
+ghost use Rattle.shr_model.specs.PoolEnds.{dying_in};
 ghost use Rattle.shr_core.specs.Layout.{places_in, row_in};
 ghost use Rattle.shr_seats.specs.Shapes.{sizes_of};
 ghost use Rattle.shr_core.specs.Rule.{has_room, pool_content};

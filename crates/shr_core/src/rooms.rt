@@ -1,7 +1,7 @@
 //! The rooms of places: taking, giving back, and storing a count.
 ghost use Rattle.std.specs.Prelude.{◌≡◌, ◌+◌, ◌*◌, ◌^◌, ◌<◌, ◌≤◌, List, ◌∷◌, MatchBool, false, map, length, Some, None, IfSome};
 ghost use Rattle.atomic_table.specs.Table.{rest};
-ghost use Rattle.shr_model.specs.Places.{place_number};
+ghost use Rattle.shr_model.specs.PlaceNumbers.{place_number};
 ghost use Rattle.shr_core.specs.Layout.{row_in};
 ghost use Rattle.shr_seats.specs.Shapes.{sizes_of};
 ghost use Rattle.shr_core.specs.Rule.{IsInside, has_room, list_content};

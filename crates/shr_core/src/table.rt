@@ -1,6 +1,6 @@
 //! The table, and the rule that it is under.
 ghost use Rattle.std.specs.Prelude.{◌≡◌, ◌<◌, ◌≤◌, length};
-ghost use Rattle.shr_model.specs.Groups.{IsTree};
+ghost use Rattle.shr_model.specs.Trees.{IsTree};
 ghost use Rattle.shr_core.specs.Layout.{words_in, rooms_in};
 ghost use Rattle.shr_seats.specs.Shapes.{sizes_of};
 ghost use Rattle.shr_core.specs.Rule.{Sound, opener};

@@ -7,7 +7,8 @@ pub use Rattle.atomic_table.proofs.Lists.{at_longer, at_map, at_set, at_snoc, se
 pub use Rattle.atomic_table.specs.Table.{Allows, Final, Joins, Me, Seen, Splits, State, keeps, opening}
 pub use Rattle.shr_base.specs.declared.ends.PlaceAmount.{PlaceAmount}
 pub use Rattle.shr_base.specs.declared.places.Place.{Place}
-pub use Rattle.shr_model.specs.Deferred.{amount_at, amount_of}
+pub use Rattle.shr_model.specs.Amounts.{amount_at}
+pub use Rattle.shr_model.specs.Deferred.{amount_of}
 pub use Rattle.shr_seats.proofs.Lining.{AreSo-push, acts_by, did_at_some, lined_do, lined_first, lined_join, lined_sole, lined_split, part-append, part_other, part_own, set_there, state_after_push, total_parts}
 pub use Rattle.shr_seats.proofs.Seating.{AreSeats-first, AreSeats-join, AreSeats-split, not_gone, others}
 pub use Rattle.shr_seats.proofs.Sums.{Each-push, Each-set, range_same}

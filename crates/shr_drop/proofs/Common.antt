@@ -11,7 +11,7 @@ pub use Rattle.shr_base.specs.declared.walks.Isolation.{Isolation}
 pub use Rattle.shr_core.specs.Seats.{IsPlaceOfShape, shape_of, view_of}
 pub use Rattle.shr_core.specs.Steps.{with_put}
 pub use Rattle.shr_core.specs.declared.view.View.{View}
-pub use Rattle.shr_model.specs.Places.{place_number}
+pub use Rattle.shr_model.specs.PlaceNumbers.{place_number}
 pub use Rattle.shr_model.specs.Scan.{Scanned, case_of, scan_from, scan_of}
 pub use Rattle.shr_walk.specs.Keeping.{Keeps, keeps_refl, keeps_trans}
 pub use Rattle.shr_walk.specs.Listers.{Listing, listing_of}

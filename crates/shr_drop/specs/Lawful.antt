@@ -8,7 +8,7 @@ use Rattle.shr_base.specs.declared.replies.Reply.{Reply}
 use Rattle.shr_base.specs.declared.replies.Reply.TheVariants as reply
 use Rattle.shr_base.specs.declared.replies.Spent.{Spent}
 use Rattle.shr_base.specs.declared.scripts.CacheDecl.{CacheDecl}
-use Rattle.shr_model.specs.Places.{place_number}
+use Rattle.shr_model.specs.PlaceNumbers.{place_number}
 use Rattle.shr_model.specs.Isolations.{ScanSeen, IsLawfulIsolation}
 use Rattle.shr_core.specs.Parts.{Made}
 use Rattle.shr_core.specs.Seats.{shape_of}

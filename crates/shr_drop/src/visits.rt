@@ -1,7 +1,7 @@
 //! The visits of one isolation.
 
 ghost use Rattle.std.specs.Prelude.{◌≡◌, ◌≤◌};
-ghost use Rattle.shr_model.specs.Places.{place_number};
+ghost use Rattle.shr_model.specs.PlaceNumbers.{place_number};
 ghost use Rattle.shr_core.specs.Seats.{IsPlaceOfShape, shape_of};
 ghost use Rattle.shr_walk.specs.Keeping.{Keeps};
 ghost use Rattle.shr_walk.specs.Listers.{listing_of};

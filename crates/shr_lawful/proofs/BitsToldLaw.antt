@@ -3,7 +3,8 @@ use Rattle.shr_lawful.proofs.Common.{◌≡◌, ◌≢◌, ◌⊎◌, inl, inr, 
 use Rattle.std.proofs.Common.{lt-ltb}
 use Rattle.shr_base.specs.declared.walks.GoneThen.TheVariants as gone
 use Rattle.shr_base.specs.declared.walks.Outcome.TheVariants as outcome
-use Rattle.shr_model.specs.Items.{items_from, moved_from}
+use Rattle.shr_model.specs.Items.{items_from}
+use Rattle.shr_model.specs.MovedItems.{moved_from}
 use Rattle.shr_core.specs.Layout as layout
 use Rattle.shr_lawful.proofs.BitsKeptLaw.{was_cleared_by}
 use Rattle.shr_lawful.proofs.Listed.{all_walks_are, WalkOf, walk_of, walk_there, among_has, has_among, all_has, take_next, range_has}

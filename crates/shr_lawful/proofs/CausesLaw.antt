@@ -3,7 +3,7 @@ use Rattle.shr_lawful.proofs.Common.{◌≡◌, ℕ, ⊎_elim, List, sym, refl, 
 use Rattle.shr_base.specs.declared.journals.TreeEntry.TheVariants.{Made}
 use Rattle.shr_base.specs.declared.replies.HalfWhy.TheVariants as why
 use Rattle.shr_base.specs.declared.replies.Reply.TheVariants as reply
-use Rattle.shr_report.specs.CausesLawful.{AreCausesLawful}
+use Rattle.shr_laws.specs.CausesLawful.{AreCausesLawful}
 use Rattle.shr_lawful.proofs.UnitWornLaw.{pool_worn}
 use Rattle.shr_lawful.proofs.AnswerCauses.{over_caused, uncached, cached, full, registered, was_done, in_the_way}
 use Rattle.shr_lawful.proofs.EntryCauses.{begins_caused, dones_caused, mades_caused, pool_caused, drained_caused}

@@ -90,16 +90,19 @@ pub use Rattle.shr_model.specs.Bag.{IsBag, added_by, added_by_all, added_in, fre
 pub use Rattle.shr_model.specs.Bits.{ids_in, is_set, set_bits_of}
 pub use Rattle.shr_model.specs.Charges.{AreTakenBack, IsChargeHistory, IsDownNext, downs, is_by, is_refused, ops_by, ups, usage_after}
 pub use Rattle.shr_model.specs.Commands.{asks_online, decl_named, group_named, is_put, is_serial, jobs_of}
-pub use Rattle.shr_model.specs.Deferred.{amount_at, deferred_word, sum_at}
+pub use Rattle.shr_model.specs.Amounts.{amount_at, sum_at}
+pub use Rattle.shr_model.specs.Deferred.{deferred_word}
 pub use Rattle.shr_model.specs.Families.{Family, IsLegal, MayStand, before_closed, items_at, items_given, items_of, lists_moved_at, moved_in, without_child}
 pub use Rattle.shr_model.specs.Freeings.{born_below, freeings_at, is_at_or_above}
-pub use Rattle.shr_model.specs.Groups.{Hierarchy, IsAtOrAbove, IsTree, is_child, is_later, parent_of, path_of}
+pub use Rattle.shr_model.specs.Groups.{Hierarchy, IsAtOrAbove, is_child, is_later, parent_of, path_of}
+pub use Rattle.shr_model.specs.Trees.{IsTree}
 pub use Rattle.shr_model.specs.Isolations.{IsLawfulIsolation, ScanSeen, first_isolation, isolation_walk}
 pub use Rattle.shr_model.specs.Items.{AreOutcomes, HasJournal, IsOutcome, drop_kind_of, dropped_of, first_moved, freed_by, is_closed, is_closing, items_from, later_moved, step}
 pub use Rattle.shr_model.specs.Moves.{given_at, is_below, taken_at}
 pub use Rattle.shr_model.specs.Objects.{change_first, fresh, holds, is_named, marked_object, named_in, pinned_object, unmarked_object, without_first}
 pub use Rattle.shr_model.specs.Pass.{ask_size, batch_of, due, total_of}
-pub use Rattle.shr_model.specs.Places.{at_group, bit_of, is_place, place_number, unit_of}
+pub use Rattle.shr_model.specs.Places.{at_group, bit_of, is_place, unit_of}
+pub use Rattle.shr_model.specs.PlaceNumbers.{place_number}
 pub use Rattle.shr_model.specs.Pool.{IsNextPool, IsPoolJournal, attempt_at, decl_after, decl_at, decl_of, from_of, id_of, is_free, is_live, is_live_decl, lowest_idle, phase_of, registrations}
 pub use Rattle.shr_model.specs.Scans.{ScanMade, scan_by, scans_by}
 pub use Rattle.shr_model.specs.Tenants.{by_of}
@@ -112,26 +115,27 @@ pub use Rattle.shr_pool.specs.Worked.{only_job}
 pub use Rattle.shr_pool.specs.declared.items.SweepItem.{SweepItem}
 pub use Rattle.shr_pool.specs.declared.items.SweepItem.TheVariants.{End}
 pub use Rattle.shr_pool.specs.declared.items.SweepJob.{SweepJob}
-pub use Rattle.shr_report.specs.Causes.{HasDrained, IsAloneAt, IsCached, IsDoneOnce, IsEndingRight, IsFreed, IsFull, IsHalf, IsInTheWay, IsMadeBy, IsMadeOnce, IsOffline, IsOfflineDone, IsOver, IsPassCaused, IsSpent, IsUncached, IsUnmade, IsUnregistered, IsWhy, MayHaveBegun, MayHaveSpliced, StandsInTree, became_idle, downs_of, drained_by, drained_of, is_done_by, is_idle_entry, is_made_by, is_of_worker, moved_of, objects_moved_from, ups_of}
-pub use Rattle.shr_report.specs.Charges.{AreChargesLawful, IsDownBetween, charged, freed_below, freed_in_command, is_of, listed_below, ways_of}
-pub use Rattle.shr_report.specs.Cuts.{AreCutsTold, IsWant}
-pub use Rattle.shr_report.specs.Deferred.{HasCarried, IsCarryRight, IsDeferredLawful, printed_at}
-pub use Rattle.shr_report.specs.Faithful.{AreNotAbove, IsDoneElsewhere, IsFaithful, IsOverOnPath, IsWalkRefused, pool_reached, tree_made, tree_reached}
-pub use Rattle.shr_report.specs.Freshness.{AreBelow, IsFresh, MayBeOffline, is_begin_at, is_done_at, made_shown, of_answer, pool_made, pool_made_by, pool_seen, pool_told, shown_by, shows_begin, shows_made, shows_offline, tree_cited, tree_seen, tree_told, walk_cited}
-pub use Rattle.shr_report.specs.Isolated.{AreIsolationsLawful, IsEndCaused, IsOfIsolation, cache_named, isolation_told, isolations_by, isolations_told, scan_seen, scans_seen}
-pub use Rattle.shr_report.specs.Lawful.{IsBagLawful, IsLawful}
-pub use Rattle.shr_report.specs.LawfulWalk.{AreScansOf, IsCountRight, IsLawfulWalk, IsOutcomeOf, IsStopped, cache_met, cache_of}
-pub use Rattle.shr_report.specs.OneOrder.{ComesBehind, Counting, EndsUse, HasAt, IsBy, IsDrainedEntry, IsEntryInUse, IsInOneOrder, IsOfUse, IsWhileDying, IsWhileEmpty, ReportTells, TellsOf, Told, ToldMeasure, TurnTells, count, countings_in, countings_of, entries, entry, looked_by, lookup, lookups, turn, turns}
-pub use Rattle.shr_report.specs.Parts.{EachAnswer, IsThere, all_carries, all_walks, answer_at, answers_in, answers_of, at, carries_by, carries_in, carries_of, cited_at, cited_by, command_at, commands_in, commands_of, decls_on, entry_by, id_found, isolation_at, items_before, items_left, journal_of, journals_of, later_of, limit_of, limits_of, lookups_at, parents_of, places_of, puts_of, reply_at, scanning_command, script_hierarchy, serial_of, sweeps_in, sweeps_of, uses_at, walk_at, walks_by, walks_in, walks_of}
-pub use Rattle.shr_report.specs.Puts.{AreFreePutsAdded, DoPutsAddUp, IsAddedOrSpent, IsEachAdded, IsFreePut, IsOnlyPut, IsUnlimited, StaysOn, StaysOnline}
-pub use Rattle.shr_report.specs.ReplyTable.{HasCause, IsReply, IsUsedUp, group_met}
-pub use Rattle.shr_report.specs.Swept.{IsSweepLawful, IsSweepReply, IsSweepRight, IsSwept, IsSweptOut, sweep_serial, sweep_walks, times_swept}
-pub use Rattle.shr_report.specs.Takes.{AreTakesInOrder, AreWholeTakes, DeferredAmounts, IsHanded, TakesAt, TakesWhole, Taking, after_all, after_step, carry_of, none_deferred, places_offlined, steps_by, steps_by_worker, steps_handed, steps_walked}
-pub use Rattle.shr_report.specs.Tries.{AreAllTries, AreTriesOf}
-pub use Rattle.shr_report.specs.WalksLawful.{AreRoundsOf, AreWalksLawful, AreWalksOf, Covers, FillsPlace, IsOfPass, IsToldBy, MayMake, was_cleared}
-pub use Rattle.shr_report.specs.WellFormed.{AreNotFalling, IsBefore}
-pub use Rattle.shr_report.specs.declared.report.Report.{Report}
-pub use Rattle.shr_report.specs.BitsTold.{AreBitsTold, HasReason, WasFilled, bit_place, is_set_again, is_since, set_again_in, was_cleared_since}
+pub use Rattle.shr_laws.specs.Causes.{HasDrained, IsAloneAt, IsCached, IsDoneOnce, IsEndingRight, IsFreed, IsFull, IsHalf, IsInTheWay, IsMadeBy, IsMadeOnce, IsOffline, IsOfflineDone, IsOver, IsPassCaused, IsSpent, IsUncached, IsUnmade, IsUnregistered, IsWhy, MayHaveBegun, MayHaveSpliced, StandsInTree, became_idle, downs_of, drained_by, drained_of, is_done_by, is_idle_entry, is_made_by, is_of_worker, moved_of, objects_moved_from, ups_of}
+pub use Rattle.shr_laws.specs.Charges.{AreChargesLawful, IsDownBetween, charged, freed_below, freed_in_command, is_of, listed_below, ways_of}
+pub use Rattle.shr_laws.specs.Cuts.{AreCutsTold, IsWant}
+pub use Rattle.shr_laws.specs.Deferred.{HasCarried, IsCarryRight, IsDeferredLawful, printed_at}
+pub use Rattle.shr_laws.specs.Faithful.{AreNotAbove, IsDoneElsewhere, IsFaithful, IsOverOnPath, IsWalkRefused, pool_reached, tree_made, tree_reached}
+pub use Rattle.shr_laws.specs.Freshness.{AreBelow, IsFresh, MayBeOffline, is_begin_at, is_done_at, made_shown, of_answer, pool_made, pool_made_by, pool_seen, pool_told, shown_by, shows_begin, shows_made, shows_offline, tree_cited, tree_seen, tree_told, walk_cited}
+pub use Rattle.shr_laws.specs.Isolated.{AreIsolationsLawful, IsEndCaused, IsOfIsolation, cache_named, isolation_told, isolations_by, isolations_told, scan_seen, scans_seen}
+pub use Rattle.shr_laws.specs.Lawful.{IsBagLawful, IsLawful}
+pub use Rattle.shr_laws.specs.LawfulWalk.{AreScansOf, IsCountRight, IsLawfulWalk, IsOutcomeOf, IsStopped, cache_met, cache_of}
+pub use Rattle.shr_laws.specs.OneOrder.{ComesBehind, Counting, EndsUse, HasAt, IsBy, IsDrainedEntry, IsEntryInUse, IsInOneOrder, IsOfUse, IsWhileDying, IsWhileEmpty, ReportTells, TellsOf, Told, ToldMeasure, TurnTells, count, countings_in, countings_of, entries, entry, looked_by, lookup, lookups, turn, turns}
+pub use Rattle.shr_laws.specs.Parts.{EachAnswer, IsThere, all_carries, all_walks, answer_at, answers_in, answers_of, at, carries_by, carries_in, carries_of, cited_at, cited_by, command_at, commands_in, commands_of, decls_on, entry_by, id_found, isolation_at, items_before, items_left, journal_of, journals_of, later_of, limit_of, limits_of, lookups_at, parents_of, places_of, puts_of, reply_at, scanning_command, script_hierarchy, serial_of, sweeps_in, sweeps_of, uses_at, walk_at, walks_by, walks_in, walks_of}
+pub use Rattle.shr_laws.specs.Puts.{AreFreePutsAdded, IsAddedOrSpent, IsFreePut, IsOnlyPut, IsUnlimited, StaysOn, StaysOnline}
+pub use Rattle.shr_laws.specs.PutSums.{DoPutsAddUp, IsEachAdded}
+pub use Rattle.shr_laws.specs.ReplyTable.{HasCause, IsReply, IsUsedUp, group_met}
+pub use Rattle.shr_laws.specs.Swept.{IsSweepLawful, IsSweepReply, IsSweepRight, IsSwept, IsSweptOut, sweep_serial, sweep_walks, times_swept}
+pub use Rattle.shr_laws.specs.Takes.{AreTakesInOrder, AreWholeTakes, DeferredAmounts, IsHanded, TakesAt, TakesWhole, Taking, after_all, after_step, carry_of, none_deferred, places_offlined, steps_by, steps_by_worker, steps_handed, steps_walked}
+pub use Rattle.shr_laws.specs.Tries.{AreAllTries, AreTriesOf}
+pub use Rattle.shr_laws.specs.WalksLawful.{AreRoundsOf, AreWalksLawful, AreWalksOf, Covers, FillsPlace, IsOfPass, IsToldBy, MayMake, was_cleared}
+pub use Rattle.shr_laws.specs.WellFormed.{AreNotFalling, IsBefore}
+pub use Rattle.shr_laws.specs.declared.report.Report.{Report}
+pub use Rattle.shr_laws.specs.BitsTold.{AreBitsTold, HasReason, WasFilled, bit_place, is_set_again, is_since, set_again_in, was_cleared_since}
 pub use Rattle.shr_seats.proofs.Weighing.{Each-append, at_begins, begins_all, begins_more, begins_push, only_no, only_yes, some_term, term_le, terms_le, total-append, total_both, total_zero}
 pub use Rattle.shr_seats.specs.Lines.{AreSo, Deed, acts_of, by_seat, part, state_after}
 pub use Rattle.shr_seats.specs.Views.{Each}

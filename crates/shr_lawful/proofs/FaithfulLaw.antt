@@ -16,7 +16,7 @@ use Rattle.shr_lawful.proofs.TakesLaw.{takes_in_order}
 use Rattle.shr_lawful.proofs.PoolPast.{pool_past}
 use Rattle.shr_lawful.proofs.TriesLaw.{tries}
 use Rattle.shr_lawful.proofs.WalksRefused.{walks_refused}
-use Rattle.shr_report.proofs.FaithfulValues.{above_none}
+use Rattle.shr_laws.proofs.FaithfulValues.{above_none}
 
 module _ (s : Script) (r : Report) (workers : List (List Step)) (run : IsRun s r workers) where
   turn_made : (x : Step) (z : Reply) → by.IsCausedBy s x z → (n : ℕ) → pool_made z ≡ n ∷ [] → (t : Turn) × IsAmong t x.work.core.turns × (t.number ≡ n)

@@ -4,7 +4,8 @@ use Rattle.shr_model.proofs.ItemsLaws.{moved_from_push}
 use Rattle.shr_base.specs.declared.objects.LruStatus.{LruStatus}
 use Rattle.shr_base.specs.declared.objects.LruStatus.TheVariants.{Removed, Rotate, Skip, Stop}
 use Rattle.shr_model.specs.Scan.{case_of, Scanned, scan_ends, after_visit, after_freeing, scan_from}
-use Rattle.shr_model.specs.Items.{after_drop, items_from, freed_from, moved_from}
+use Rattle.shr_model.specs.Items.{after_drop, items_from, freed_from}
+use Rattle.shr_model.specs.MovedItems.{moved_from}
 use Rattle.shr_model.specs.Families.{lists_moved, items_within}
 
 module _ (P : Object → Type 0) (marks : (o : Object) → P o → P (marked_object o)) (unmarks : (o : Object) → P o → P (unmarked_object o)) (pins : (pinned : Bool) (o : Object) → P o → P (pinned_object pinned o)) where

@@ -3,7 +3,7 @@ use Rattle.shr_lawful.proofs.Common.{◌≡◌, ℕ, ◌<◌, ◌≤◌, Bool, t
 use Rattle.shr_charge.specs.Views as charge
 use Rattle.shr_lawful.proofs.Gathering.{has_step, among_right, one_step, weighs, each_among, work_of, below_one, below_most, maker, back_there, mine_at, total_same_on}
 use Rattle.shr_lawful.proofs.Listed.{all_among, contains_slice, slice_contains, contains_among, begins_slice, closed_begins, most_one}
-use Rattle.shr_report.specs.Journals.{AreJournalsLawful}
+use Rattle.shr_laws.specs.Journals.{AreJournalsLawful}
 use Rattle.shr_charge.specs.declared.answers.GroupState.TheVariants as state
 
 -- ---- what bears numbers of its own, by the steps that made it

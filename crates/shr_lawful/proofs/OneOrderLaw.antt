@@ -4,7 +4,7 @@ use Rattle.shr_core.proofs.Unregistering.{there as at_less}
 use Rattle.shr_model.proofs.Lists.{there_at}
 use Rattle.shr_core.specs.Ranks as core
 use Rattle.shr_core.proofs.Ranking as ranking
-use Rattle.shr_report.specs.OneOrder.{numbers_tried, number_found}
+use Rattle.shr_laws.specs.OneOrder.{numbers_tried, number_found}
 use Rattle.shr_lawful.proofs.CountsTold.{at_behind, mine, count_spot, CountAt, count_at, one_seen}
 use Rattle.shr_lawful.proofs.EventsTold.{is_entry, is_lookup, is_turn, entry_tells, lookup_tells, turn_tells, alone, core_of, one_try, not_below, registered, registered_flat}
 use Rattle.shr_lawful.proofs.FreshLaw.{step_cases, begins_length}

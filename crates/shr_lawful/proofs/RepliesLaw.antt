@@ -1,6 +1,6 @@
 -- The law of replies, of a run.
 use Rattle.shr_lawful.proofs.Common.{◌≡◌, ℕ, ◌<◌, List, sym, ap, subst, ◌∙◌, arith, slice_get, Some, Option, same_Some, none-some, Place, Serial, Answered, Command, Entry, Add, Look, Drop, Pin, Script, place_number, by_of, Made, back, Report, parents_of, journals_of, serial_of, cited_at, cited_by, id_found, at, IsReply, Step, IsAmong, IsTenantEntry, MayMakeEntry, IsMadeAsCited, IsReplyTo, IsRun}
-use Rattle.shr_report.specs.Replies.{AreRepliesLawful}
+use Rattle.shr_laws.specs.Replies.{AreRepliesLawful}
 use Rattle.shr_lawful.proofs.Gathering.{each_among, among_right, among_begins, work_of, grows, made_stands, maker, Stepped, stepped, cited_is, replies}
 use Rattle.shr_lawful.proofs.SweepSteps.{last_answer}
 

@@ -1,7 +1,7 @@
 -- Which entry a reply cites, by its command.
 use Rattle.shr_lawful.proofs.Common.{◌≡◌, ℕ, Bool, List, refl, sym, subst, ◌∙◌, slice_get, Option, Some, None, same_Some, none-some, Serial, At, DropKind, Entry, Add, Look, Drop, Pin, Reply, Command, Put, On, Get, Del, SetPin, Family, cited_by, IsReply, IsReplyTo}
 use Rattle.shr_base.specs.declared.replies.Reply.TheVariants as reply
-use Rattle.shr_report.proofs.QuietSweep.{sweep_cites}
+use Rattle.shr_laws.proofs.QuietSweep.{sweep_cites}
 
 -- the entry is one that a command makes
 abbrev pub IsEntryFor : Serial → Command → Entry → Type 0

@@ -3,7 +3,7 @@ use Rattle.shr_lawful.proofs.Common.{◌≡◌, ℕ, false, [], ◌∷◌, refl,
 use Rattle.shr_base.specs.declared.replies.Reply.TheVariants as reply
 use Rattle.shr_base.specs.declared.walks.WalkAnswer.TheVariants.{Walked}
 use Rattle.shr_pool.specs.declared.items.SweepItem.TheVariants.{Walk}
-use Rattle.shr_report.proofs.SecondReport.{kept}
+use Rattle.shr_laws.proofs.SecondReport.{kept}
 
 abbrev walk : ℕ → WalkRecord
 walk group = record { by = record { worker = 0; command = 0 }; group = group; node = 0; priority = 12; nofs = false; maps = kept []; attempts = kept []; answer = Walked 0 }

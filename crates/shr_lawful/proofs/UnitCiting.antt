@@ -6,8 +6,8 @@ use Rattle.shr_seats.proofs.RoomParts as parts
 use Rattle.shr_seats.proofs.RoomTelling.{told_recent}
 use Rattle.shr_plain.specs.declared.answers.GrabAnswer.TheVariants as grab
 use Rattle.shr_plain.specs.declared.answers.ReleaseAnswer.TheVariants as release
-use Rattle.shr_report.specs.Swept.{IsSweepReply}
-use Rattle.shr_report.proofs.QuietSweep.{few_sweeps}
+use Rattle.shr_laws.specs.Swept.{IsSweepReply}
+use Rattle.shr_laws.proofs.QuietSweep.{few_sweeps}
 use Rattle.shr_lawful.proofs.UnitStepKinds.{Kind, released, grabbed, walked, idle}
 use Rattle.shr_lawful.proofs.UnitLists.{IsIn, in_right, begins_in, each_in}
 use Rattle.shr_lawful.proofs.UnitPooling.{IsHome, is_home}

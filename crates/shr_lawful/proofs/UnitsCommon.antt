@@ -27,7 +27,8 @@ pub use Rattle.shr_base.specs.declared.walks.PlainWalk.{PlainWalk}
 pub use Rattle.shr_deferred.proofs.SeatLaws.{gives_both, takes_both}
 pub use Rattle.shr_deferred.specs.Moves.{Moves, both, gives_of, no_moves, takes_of}
 pub use Rattle.shr_model.proofs.PlacesLaws.{is_place_itself, is_place_same}
-pub use Rattle.shr_model.specs.Deferred.{amount_at, amount_of, deferred_word, sum_at}
+pub use Rattle.shr_model.specs.Amounts.{amount_at, sum_at}
+pub use Rattle.shr_model.specs.Deferred.{amount_of, deferred_word}
 pub use Rattle.shr_model.specs.Places.{is_place}
 pub use Rattle.shr_model.specs.Units.{IsPlainJournal, free_of}
 pub use Rattle.shr_pass.specs.Passes.{MatchPass, asked_of, count_of, scan_freed, moves_by}
@@ -44,12 +45,12 @@ pub use Rattle.shr_plain.specs.Walks.{Answers, AreCut, AreScans, AreTried, EndsB
 pub use Rattle.shr_plain.specs.declared.answers.GrabAnswer.{GrabAnswer}
 pub use Rattle.shr_plain.specs.declared.answers.ReleaseAnswer.{ReleaseAnswer}
 pub use Rattle.shr_plain.specs.declared.settings.Setting.{Setting}
-pub use Rattle.shr_report.specs.Causes.{IsPoolSpent}
-pub use Rattle.shr_report.specs.Parts.{EachAnswer, answer_at, answers_of, at, command_at, commands_of, reply_at, serial_of}
-pub use Rattle.shr_report.specs.Pools.{ArePoolsLawful, AreUnitsRight, CitesUnits, HasTries, IsKind, IsOfPlain, IsPlainCount, IsPlainEnding, IsPlainLawful, IsPlainPass, IsPoolReply, IsTooFull, ReclaimMade, freed_in_try, len_in, plain_told, plain_versions, pool_printed_at, reclaim_by, reclaims_by, version_in}
-pub use Rattle.shr_report.specs.UnitParts.{EachPlain, EachTry, EachUnits, PlainJob, all_plain, home_in, pass_at, pass_in, pool_passes, plain_at, plain_by, plain_by_of, plain_due, plain_in, plain_job_of, plain_jobs, plain_of, pool_place, try_at, units_cited, units_cited_at, units_entries, units_journal}
-pub use Rattle.shr_report.specs.WellFormed.{AreNotFalling, AreOfCommands, IsPlaceBefore, IsPlaceUpTo, units_place}
-pub use Rattle.shr_report.specs.declared.report.Report.{Report}
+pub use Rattle.shr_laws.specs.Causes.{IsPoolSpent}
+pub use Rattle.shr_laws.specs.Parts.{EachAnswer, answer_at, answers_of, at, command_at, commands_of, reply_at, serial_of}
+pub use Rattle.shr_laws.specs.Pools.{ArePoolsLawful, AreUnitsRight, CitesUnits, HasTries, IsKind, IsOfPlain, IsPlainCount, IsPlainEnding, IsPlainLawful, IsPlainPass, IsPoolReply, IsTooFull, ReclaimMade, freed_in_try, len_in, plain_told, plain_versions, pool_printed_at, reclaim_by, reclaims_by, version_in}
+pub use Rattle.shr_laws.specs.UnitParts.{EachPlain, EachTry, EachUnits, PlainJob, all_plain, home_in, pass_at, pass_in, pool_passes, plain_at, plain_by, plain_by_of, plain_due, plain_in, plain_job_of, plain_jobs, plain_of, pool_place, try_at, units_cited, units_cited_at, units_entries, units_journal}
+pub use Rattle.shr_laws.specs.WellFormed.{AreNotFalling, AreOfCommands, IsPlaceBefore, IsPlaceUpTo, units_place}
+pub use Rattle.shr_laws.specs.declared.report.Report.{Report}
 pub use Rattle.shr_seats.specs.RoomRule.{CountsPrefix, IsEntryMade, times_made}
 pub use Rattle.shr_seats.specs.RoomTold.{IsRecent, IsTold}
 pub use Rattle.shr_seats.specs.RoomViews.{RoomCount, RoomMade, RoomView, part_at, with_entry, with_known}

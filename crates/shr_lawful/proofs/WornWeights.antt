@@ -3,7 +3,8 @@ use Rattle.shr_lawful.proofs.Common.{◌≡◌, ℕ, zero, suc, ◌+◌, ◌<◌
 use Rattle.shr_lawful.proofs.Gathering.{weighs}
 use Rattle.shr_lawful.proofs.Listed.{contains_among}
 use Rattle.shr_model.specs.Families.{lists_moved, IsPaired}
-use Rattle.shr_model.specs.Items.{items_from, freed_from, moved_from, AreOutcomes}
+use Rattle.shr_model.specs.Items.{items_from, freed_from, AreOutcomes}
+use Rattle.shr_model.specs.MovedItems.{moved_from}
 use Rattle.shr_model.proofs.Weights.{taken_from, given_from}
 
 -- what a list held after the first entries, and what it took in later, is freed, given away or left

@@ -11,12 +11,12 @@ use Rattle.shr_base.specs.declared.walks.Outcome.TheVariants as outcome
 use Rattle.shr_base.specs.declared.walks.PassRecord.{PassRecord}
 use Rattle.shr_base.specs.declared.replies.Spent.{Spent}
 use Rattle.shr_model.specs.Attempts.{number_of, is_held, pass_of}
-use Rattle.shr_model.specs.Places.{place_number}
+use Rattle.shr_model.specs.PlaceNumbers.{place_number}
 use Rattle.shr_model.specs.Scans.{ScanMade, scan_by}
 use Rattle.shr_model.specs.Walks.{place_in}
 use Rattle.shr_core.specs.Parts.{Made}
 use Rattle.shr_node.specs.Gains.{KnowsClosed}
-use Rattle.shr_report.specs.LawfulWalk.{IsOutcomeOf, AreScansOf, IsStopped}
+use Rattle.shr_laws.specs.LawfulWalk.{IsOutcomeOf, AreScansOf, IsStopped}
 use Rattle.shr_lawful.specs.Steps.{Step, IsAmong}
 use Rattle.shr_lawful.specs.Worn.{IsWornBy}
 

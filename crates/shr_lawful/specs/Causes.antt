@@ -24,10 +24,10 @@ use Rattle.shr_charge.specs.Offlining.{IsNamed}
 use Rattle.shr_charge.specs.declared.answers.GroupState.TheVariants as state
 use Rattle.shr_charge.specs.Views.{LoadedState}
 use Rattle.shr_deferred.specs.Moves.{takes_of}
-use Rattle.shr_report.specs.Takes.{places_offlined}
-use Rattle.shr_report.specs.Parts.{parents_of, later_of, script_hierarchy, limit_of}
-use Rattle.shr_report.specs.ReplyTable.{group_met}
-use Rattle.shr_report.specs.Causes.{drained_by, moved_of}
+use Rattle.shr_laws.specs.Takes.{places_offlined}
+use Rattle.shr_laws.specs.Parts.{parents_of, later_of, script_hierarchy, limit_of}
+use Rattle.shr_laws.specs.ReplyTable.{group_met}
+use Rattle.shr_laws.specs.Causes.{drained_by, moved_of}
 use Rattle.shr_lawful.specs.Steps.{Step, IsAmong}
 use Rattle.shr_lawful.specs.Charges.{ops_at}
 use Rattle.shr_lawful.specs.Worn.{IsWornBy}

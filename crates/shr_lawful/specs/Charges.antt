@@ -8,8 +8,8 @@ use Rattle.shr_model.specs.Charges.{ups, downs, usage_after, AreTakenBack}
 use Rattle.shr_model.specs.Freeings.{is_at_or_above, born_below}
 use Rattle.shr_model.specs.Items.{freed_by}
 use Rattle.shr_core.specs.Parts.{Made}
-use Rattle.shr_report.specs.Parts.{parents_of, limit_of}
-use Rattle.shr_report.specs.Charges.{IsDownBetween, charged}
+use Rattle.shr_laws.specs.Parts.{parents_of, limit_of}
+use Rattle.shr_laws.specs.Charges.{IsDownBetween, charged}
 use Rattle.shr_lawful.specs.Steps.{Step, IsPut}
 
 -- the operations of a group

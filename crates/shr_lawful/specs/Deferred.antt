@@ -6,14 +6,14 @@ use Rattle.shr_base.specs.declared.places.Place.{Place}
 use Rattle.shr_base.specs.declared.scripts.Command.TheVariants.{Offline}
 use Rattle.shr_base.specs.declared.scripts.Script.{Script}
 use Rattle.shr_base.specs.declared.walks.Carry.{Carry}
-use Rattle.shr_model.specs.Deferred.{sum_at}
+use Rattle.shr_model.specs.Amounts.{sum_at}
 use Rattle.shr_model.specs.Moves.{given_at, taken_at}
 use Rattle.shr_deferred.specs.Moves.{Move, takes_of, gives_of}
 use Rattle.shr_deferred.specs.Moves as moves
-use Rattle.shr_report.specs.Parts.{parents_of, IsThere}
-use Rattle.shr_report.specs.Deferred.{HasCarried}
-use Rattle.shr_report.specs.Takes.{WordStep, took, gave, steps_walked, steps_handed, places_offlined, carry_of}
-use Rattle.shr_report.specs.WellFormed.{IsBefore}
+use Rattle.shr_laws.specs.Parts.{parents_of, IsThere}
+use Rattle.shr_laws.specs.Deferred.{HasCarried}
+use Rattle.shr_laws.specs.Takes.{WordStep, took, gave, steps_walked, steps_handed, places_offlined, carry_of}
+use Rattle.shr_laws.specs.WellFormed.{IsBefore}
 use Rattle.shr_lawful.specs.Steps.{Step}
 
 -- A carry is of the command, an `offline` of its group that was answered so. The worker didn't know before it that the group

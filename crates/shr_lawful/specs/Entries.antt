@@ -18,7 +18,8 @@ use Rattle.shr_base.specs.Walks.{WalkRecord}
 use Rattle.shr_model.specs.Commands.{group_named}
 use Rattle.shr_model.specs.Groups.{IsAtOrAbove}
 use Rattle.shr_model.specs.Families.{Family, items_at}
-use Rattle.shr_model.specs.Places.{place_number, at_group}
+use Rattle.shr_model.specs.PlaceNumbers.{place_number}
+use Rattle.shr_model.specs.Places.{at_group}
 use Rattle.shr_model.specs.Walks.{passes_at}
 use Rattle.shr_model.specs.Isolations.{first_isolation}
 use Rattle.shr_seats.specs.Lines.{by_seat}
@@ -28,11 +29,11 @@ use Rattle.shr_core.specs.Gained.{among, cleared_in}
 use Rattle.shr_core.specs.Parts.{Made, Known, Event, raised}
 use Rattle.shr_core.specs.Layout.{place_id, group_of, place_at, beside}
 use Rattle.shr_node.specs.Gains.{KnowsClosed}
-use Rattle.shr_report.specs.Parts.{parents_of, cited_by, id_found, at}
-use Rattle.shr_report.specs.Isolated.{isolations_told}
-use Rattle.shr_report.specs.ReplyTable.{IsReply}
-use Rattle.shr_report.specs.Causes.{MayHaveBegun}
-use Rattle.shr_report.specs.Swept.{IsSweepReply}
+use Rattle.shr_laws.specs.Parts.{parents_of, cited_by, id_found, at}
+use Rattle.shr_laws.specs.Isolated.{isolations_told}
+use Rattle.shr_laws.specs.ReplyTable.{IsReply}
+use Rattle.shr_laws.specs.Causes.{MayHaveBegun}
+use Rattle.shr_laws.specs.Swept.{IsSweepReply}
 use Rattle.shr_lawful.specs.Steps.{Step, IsAmong}
 use Rattle.shr_lawful.specs.Walks.{set_by_walk}
 

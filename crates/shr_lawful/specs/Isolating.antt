@@ -6,11 +6,11 @@ use Rattle.shr_base.specs.declared.scripts.CacheDecl.{CacheDecl}
 use Rattle.shr_base.specs.declared.scripts.Script.{Script}
 use Rattle.shr_base.specs.declared.walks.Isolation.{Isolation}
 use Rattle.shr_model.specs.Commands.{decl_named}
-use Rattle.shr_model.specs.Places.{place_number}
+use Rattle.shr_model.specs.PlaceNumbers.{place_number}
 use Rattle.shr_model.specs.Isolations.{ScanSeen, IsLawfulIsolation}
 use Rattle.shr_core.specs.Parts.{Made}
 use Rattle.shr_node.specs.Gains.{KnowsClosed}
-use Rattle.shr_report.specs.Parts.{IsThere}
+use Rattle.shr_laws.specs.Parts.{IsThere}
 use Rattle.shr_drop.specs.Isolating.{visitor_of}
 use Rattle.shr_drop.specs.Lawful.{placed, placed_scan}
 use Rattle.shr_lawful.specs.Steps.{Step}

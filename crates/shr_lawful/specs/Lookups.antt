@@ -5,7 +5,7 @@ use Rattle.shr_base.specs.declared.scripts.Script.{Script}
 use Rattle.shr_model.specs.Commands.{decl_named}
 use Rattle.shr_model.specs.Pool.{is_live, decl_of, from_of}
 use Rattle.shr_core.specs.Parts.{Tried}
-pub use Rattle.shr_report.specs.OneOrder.{lookup_numbered, numbers_tried, number_found}
+pub use Rattle.shr_laws.specs.OneOrder.{lookup_numbered, numbers_tried, number_found}
 use Rattle.shr_lawful.specs.Steps.{Step, IsAmong}
 
 -- the lookup of an id that was made

@@ -7,7 +7,7 @@ use Rattle.shr_base.specs.declared.replies.Reply.TheVariants as reply
 use Rattle.shr_base.specs.declared.scripts.Command.TheVariants.{Offline, MkGroup}
 use Rattle.shr_base.specs.declared.scripts.Script.{Script}
 use Rattle.shr_model.specs.Commands.{asks_online}
-use Rattle.shr_model.specs.Places.{place_number}
+use Rattle.shr_model.specs.PlaceNumbers.{place_number}
 use Rattle.shr_model.specs.Groups.{Hierarchy}
 use Rattle.shr_model.specs.TreeJournal.{begin_of, is_made}
 use Rattle.shr_charge.specs.declared.answers.GroupState.{GroupState}
@@ -15,9 +15,9 @@ use Rattle.shr_charge.specs.declared.answers.GroupState.TheVariants as state
 use Rattle.shr_charge.specs.Told.{is_there}
 use Rattle.shr_charge.specs.Views.{TreeMade, LoadedState, TreeView}
 use Rattle.shr_node.specs.Gains.{KnowsClosed}
-use Rattle.shr_report.specs.Parts.{script_hierarchy, IsThere}
-use Rattle.shr_report.specs.Causes.{MayHaveBegun, is_done_by}
-use Rattle.shr_report.specs.Freshness.{MayBeOffline, made_shown}
+use Rattle.shr_laws.specs.Parts.{script_hierarchy, IsThere}
+use Rattle.shr_laws.specs.Causes.{MayHaveBegun, is_done_by}
+use Rattle.shr_laws.specs.Freshness.{MayBeOffline, made_shown}
 use Rattle.shr_lawful.specs.Steps.{Step, IsAmong}
 
 -- a worker doesn't know that a group went offline: no word that it loaded, and no Begin that it knows, says so

@@ -2,13 +2,13 @@
 use Rattle.std.specs.Prelude.{◌≡◌, ℕ, ◌+◌, List, slice_get, Some}
 use Rattle.shr_base.specs.declared.places.Place.{Place}
 use Rattle.shr_base.specs.declared.scripts.Script.{Script}
-use Rattle.shr_model.specs.Places.{place_number}
+use Rattle.shr_model.specs.PlaceNumbers.{place_number}
 use Rattle.shr_seats.specs.Lines.{Deed, part}
 use Rattle.shr_seats.specs.Weights.{times, Begins}
 use Rattle.shr_core.specs.Order.{AreEvents, AreOwn, AreInUse, last_users, last_moment}
 use Rattle.shr_core.specs.Parts.{Event, cleared}
-use Rattle.shr_report.specs.declared.report.Report.{Report}
-use Rattle.shr_report.specs.Parts.{journals_of, IsThere}
+use Rattle.shr_laws.specs.declared.report.Report.{Report}
+use Rattle.shr_laws.specs.Parts.{journals_of, IsThere}
 use Rattle.shr_lawful.specs.Steps.{Step, IsAmong, steps_of}
 
 -- a worker had done this by the end of one of its steps

@@ -9,8 +9,8 @@ use Rattle.shr_base.specs.declared.scripts.Script.{Script}
 use Rattle.shr_model.specs.Pool.{phase_of}
 use Rattle.shr_seats.specs.Views.{Each}
 use Rattle.shr_core.specs.Parts.{Turn}
-use Rattle.shr_report.specs.Freshness.{pool_seen, pool_made}
-use Rattle.shr_report.specs.WellFormed.{AreNotFalling}
+use Rattle.shr_laws.specs.Freshness.{pool_seen, pool_made}
+use Rattle.shr_laws.specs.WellFormed.{AreNotFalling}
 use Rattle.shr_lawful.specs.Steps.{Step}
 
 -- an entry that was made is the one that the answer tells of; the Idle of a Freed is the id's next entry

@@ -13,10 +13,12 @@ use Rattle.shr_model.specs.Bag.{added_in, freed_in, listed_in}
 use Rattle.shr_model.specs.Bits.{is_set}
 use Rattle.shr_model.specs.Charges.{IsChargeHistory}
 use Rattle.shr_model.specs.Commands.{decl_named}
-use Rattle.shr_model.specs.Deferred.{sum_at, deferred_word}
+use Rattle.shr_model.specs.Amounts.{sum_at}
+use Rattle.shr_model.specs.Deferred.{deferred_word}
 use Rattle.shr_model.specs.Families.{IsLegal, IsPaired}
-use Rattle.shr_model.specs.Groups.{IsTree, IsHierarchy}
-use Rattle.shr_model.specs.Places.{place_number, unit_of, bit_of}
+use Rattle.shr_model.specs.Trees.{IsTree, IsHierarchy}
+use Rattle.shr_model.specs.PlaceNumbers.{place_number}
+use Rattle.shr_model.specs.Places.{unit_of, bit_of}
 use Rattle.shr_model.specs.Pool.{phase_of, is_before, end_of, last_number, registrations, decl_at, IsPoolJournal}
 use Rattle.shr_model.specs.TreeJournal.{IsTreeJournal}
 use Rattle.shr_deferred.specs.Moves.{Move, takes_of, gives_of}
@@ -32,12 +34,12 @@ use Rattle.shr_charge.specs.Offlining as offlining
 use Rattle.shr_charge.specs.Views.{no_tree}
 use Rattle.shr_charge.specs.Views as charge
 use Rattle.shr_walk.specs.State.{WorkerState}
-use Rattle.shr_report.specs.declared.report.Report.{Report}
-use Rattle.shr_report.specs.Parts.{parents_of, script_hierarchy, decls_on, serial_of, commands_of, sweeps_of, answers_of, walks_of, carries_of, isolations_of, journals_of, places_of, items_before, items_left, uses_at, lookups_at, IsThere}
-use Rattle.shr_report.specs.BitsLawful.{AreBitsLawful}
-use Rattle.shr_report.specs.BitsTold.{bit_place}
-use Rattle.shr_report.specs.Deferred.{printed_at}
-use Rattle.shr_report.specs.WellFormed.{AreNumbersRising}
+use Rattle.shr_laws.specs.declared.report.Report.{Report}
+use Rattle.shr_laws.specs.Parts.{parents_of, script_hierarchy, decls_on, serial_of, commands_of, sweeps_of, answers_of, walks_of, carries_of, isolations_of, journals_of, places_of, items_before, items_left, uses_at, lookups_at, IsThere}
+use Rattle.shr_laws.specs.BitsLawful.{AreBitsLawful}
+use Rattle.shr_laws.specs.BitsTold.{bit_place}
+use Rattle.shr_laws.specs.Deferred.{printed_at}
+use Rattle.shr_laws.specs.WellFormed.{AreNumbersRising}
 use Rattle.shr_lawful.specs.UnitSteps.{UnitsStep}
 use Rattle.shr_lawful.specs.UnitRuns.{AreUnits}
 use Rattle.shr_lawful.specs.Steps.{Step, gathered, steps_of, AreStepsChained}

@@ -11,8 +11,8 @@ use Rattle.shr_pool.specs.declared.items.SweepJob.{SweepJob}
 use Rattle.shr_pool.specs.declared.view.PassView.{PassView}
 use Rattle.shr_pool.specs.Lines.{sweep_job}
 use Rattle.shr_pool.specs.Worked.{AreEachOnce}
-use Rattle.shr_report.specs.Parts.{parents_of}
-use Rattle.shr_report.specs.Swept.{IsSweptOut}
+use Rattle.shr_laws.specs.Parts.{parents_of}
+use Rattle.shr_laws.specs.Swept.{IsSweptOut}
 use Rattle.shr_lawful.specs.Steps.{Step, steps_of}
 
 -- the group and the node of a walk

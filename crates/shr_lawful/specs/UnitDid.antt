@@ -17,7 +17,7 @@ use Rattle.shr_plain.specs.Opening.{settings_of, pool_sizes}
 use Rattle.shr_plain.specs.Seat.{PlainState}
 use Rattle.shr_plain.specs.Settings.{IsPoolOf, home_place, room_of}
 use Rattle.shr_plain.specs.Walks.{PlainWalkGives}
-use Rattle.shr_report.specs.UnitParts.{PlainJob, plain_due}
+use Rattle.shr_laws.specs.UnitParts.{PlainJob, plain_due}
 use Rattle.shr_lawful.specs.UnitSteps.{UnitsStep}
 
 -- the place of a pool for a node, and its room

@@ -9,7 +9,8 @@ use Rattle.shr_base.specs.declared.replies.Spent.{Spent}
 use Rattle.shr_base.specs.declared.scripts.Command.{Command}
 use Rattle.shr_base.specs.declared.scripts.Command.TheVariants.{Release, Grab}
 use Rattle.shr_base.specs.declared.scripts.Script.{Script}
-use Rattle.shr_model.specs.Deferred.{sum_at, deferred_word}
+use Rattle.shr_model.specs.Amounts.{sum_at}
+use Rattle.shr_model.specs.Deferred.{deferred_word}
 use Rattle.shr_model.specs.Units.{IsPlainJournal}
 use Rattle.shr_seats.specs.Rows.{IsPlaceOf, row_count}
 use Rattle.shr_seats.specs.Views.{Each}
@@ -20,12 +21,12 @@ use Rattle.shr_seats.specs.RoomViews.{RoomView, part_at}
 use Rattle.shr_plain.specs.Ending.{units_end_value, units_ends_below}
 use Rattle.shr_plain.specs.Rule.{units}
 use Rattle.shr_plain.specs.Seat.{no_state}
-use Rattle.shr_report.specs.declared.report.Report.{Report}
-use Rattle.shr_report.specs.Causes.{IsPoolSpent}
-use Rattle.shr_report.specs.Parts.{serial_of, commands_of, sweeps_of, answers_of, answer_at, reply_at, command_at}
-use Rattle.shr_report.specs.Pools.{pool_printed_at}
-use Rattle.shr_report.specs.Swept.{sweep_serial, IsSweepReply}
-use Rattle.shr_report.specs.UnitParts.{pool_place, plain_of}
+use Rattle.shr_laws.specs.declared.report.Report.{Report}
+use Rattle.shr_laws.specs.Causes.{IsPoolSpent}
+use Rattle.shr_laws.specs.Parts.{serial_of, commands_of, sweeps_of, answers_of, answer_at, reply_at, command_at}
+use Rattle.shr_laws.specs.Pools.{pool_printed_at}
+use Rattle.shr_laws.specs.Swept.{sweep_serial, IsSweepReply}
+use Rattle.shr_laws.specs.UnitParts.{pool_place, plain_of}
 use Rattle.shr_plain.specs.Opening.{pool_sizes}
 use Rattle.shr_lawful.specs.UnitDid.{DidUnits}
 use Rattle.shr_lawful.specs.UnitSteps.{UnitsStep, units_steps_of, AreChained, last_units_state, units_made_in}

@@ -17,7 +17,7 @@ use Rattle.shr_model.specs.Bits.{units_of}
 use Rattle.shr_model.specs.Charges.{is_refused}
 use Rattle.shr_model.specs.Commands.{jobs_of}
 use Rattle.shr_model.specs.Groups.{IsAtOrAbove}
-use Rattle.shr_model.specs.Places.{place_number}
+use Rattle.shr_model.specs.PlaceNumbers.{place_number}
 use Rattle.shr_model.specs.Walks.{job_of, place_in, units_seen, ids_seen, ids_tried, freed_of, is_cut, freed_told, clearings_of}
 use Rattle.shr_model.specs.Isolations.{first_isolation}
 use Rattle.shr_seats.specs.Views.{Each}
@@ -27,13 +27,13 @@ use Rattle.shr_core.specs.Layout.{map_number}
 use Rattle.shr_core.specs.Parts.{Counted, Mapped}
 use Rattle.shr_walk.specs.Fresh.{AreFresh}
 use Rattle.shr_walk.specs.Records.{is_setting}
-use Rattle.shr_report.specs.Parts.{parents_of, limit_of, EachAttempt}
-use Rattle.shr_report.specs.LawfulWalk.{IsBegun, IsLastOfCut, IsPlaced}
-use Rattle.shr_report.specs.Swept.{IsSwept}
-use Rattle.shr_report.specs.Tries.{refusals_of, was_charged, outcomes_in}
-use Rattle.shr_report.specs.Cuts.{IsWant}
-use Rattle.shr_report.specs.WalksLawful.{over_at, MayMake, IsToldBy}
-use Rattle.shr_report.specs.WellFormed.{IsWalkWell}
+use Rattle.shr_laws.specs.Parts.{parents_of, limit_of, EachAttempt}
+use Rattle.shr_laws.specs.LawfulWalk.{IsBegun, IsLastOfCut, IsPlaced}
+use Rattle.shr_laws.specs.Swept.{IsSwept}
+use Rattle.shr_laws.specs.Tries.{refusals_of, was_charged, outcomes_in}
+use Rattle.shr_laws.specs.Cuts.{IsWant}
+use Rattle.shr_laws.specs.WalksLawful.{over_at, MayMake, IsToldBy}
+use Rattle.shr_laws.specs.WellFormed.{IsWalkWell}
 use Rattle.shr_lawful.specs.Steps.{Step, IsAmong}
 use Rattle.shr_lawful.specs.Charges.{ops_at}
 use Rattle.shr_lawful.specs.Offlining.{KnowsOnline}

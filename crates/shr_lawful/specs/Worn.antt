@@ -12,8 +12,9 @@ use Rattle.shr_base.specs.declared.places.At.{At}
 use Rattle.shr_model.specs.Groups.{is_child}
 use Rattle.shr_model.specs.Items.{HasJournal}
 use Rattle.shr_model.specs.Families.{moved_in}
-use Rattle.shr_model.specs.Places.{place_number, at_group}
-use Rattle.shr_report.specs.Parts.{parents_of, IsThere}
+use Rattle.shr_model.specs.PlaceNumbers.{place_number}
+use Rattle.shr_model.specs.Places.{at_group}
+use Rattle.shr_laws.specs.Parts.{parents_of, IsThere}
 use Rattle.shr_lawful.specs.Steps.{Step, IsAmong, IsPut}
 
 -- the worker knows a beginning of a place's journal, and that it leaves these objects

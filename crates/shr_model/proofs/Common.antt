@@ -26,13 +26,17 @@ pub use Rattle.shr_model.specs.Bag.{added_by, added_by_all, added_in, freed_at, 
 pub use Rattle.shr_model.specs.Bits.{ids_in, is_set, set_bits_of, units_of}
 pub use Rattle.shr_model.specs.Charges.{AreTakenBack, IsBelow, IsChargeHistory, IsDownNext, IsNextUse, is_refused, usage_after}
 pub use Rattle.shr_model.specs.Families.{Family, IsAllowed, IsBornAt, IsLegal, IsPaired, MayStand, before_closed, items_at, items_given, items_of, lists_moved_at, moved_in, without_child}
-pub use Rattle.shr_model.specs.Groups.{Hierarchy, IsAtOrAbove, IsHierarchy, IsTree, children_of, depth_of, is_child, is_later, parent_of, path_of, preorder_of}
+pub use Rattle.shr_model.specs.Groups.{Hierarchy, IsAtOrAbove, children_of, is_child, is_later, parent_of, path_of, preorder_of}
+pub use Rattle.shr_model.specs.Trees.{IsHierarchy, IsTree, depth_of}
 pub use Rattle.shr_model.specs.Items.{HasJournal, IsOpenBeforeEach, IsOutcome, after_drop, drop_kind_of, dropped_of, first_moved, freed_by, is_closed, is_closing, later_moved, step}
 pub use Rattle.shr_model.specs.Objects.{change_first, fresh, holds, is_named, marked_object, named_in, pinned_object, unmarked_object, without_first}
-pub use Rattle.shr_model.specs.Pass.{FollowsArithmetic, ask_of, batch_of, delta_of, due_asks, next_of, total_of}
-pub use Rattle.shr_model.specs.Places.{at_group, bit_of, is_place, place_number, unit_of}
+pub use Rattle.shr_model.specs.Pass.{FollowsArithmetic, batch_of, delta_of, due_asks, next_of, total_of}
+pub use Rattle.shr_model.specs.PassSteps.{ask_of}
+pub use Rattle.shr_model.specs.Places.{at_group, bit_of, is_place, unit_of}
+pub use Rattle.shr_model.specs.PlaceNumbers.{place_number}
 pub use Rattle.shr_model.specs.Pool.{IsNextPool, IsPoolJournal}
 pub use Rattle.shr_model.specs.Scan.{Scanned, after_freeing, after_visit, case_of, scan_ends, scan_of}
-pub use Rattle.shr_model.specs.Tenants.{AreTenant, birth_of, by_of, is_tenant}
+pub use Rattle.shr_model.specs.TenantEntries.{AreTenant, birth_of, is_tenant}
+pub use Rattle.shr_model.specs.Tenants.{by_of}
 pub use lib.ListN.{get_elem?}
 pub use mathlib.Core.Option.{some, some-injective, some-ne-none}

@@ -2,7 +2,8 @@
 -- the family stays legal.
 use Rattle.shr_model.proofs.Common.{◌≡◌, ◌≢◌, ◌⊎◌, ℕ, zero, suc, ◌+◌, ◌<◌, ◌≤◌, Bool, true, false, not, ◌==◌, ◌||◌, cond, List, [], ◌∷◌, ◌++◌, length, take, slice_get, refl, Some, None, Option, ap, sym, ◌∙◌, subst, arith, inl, inr, ⊎_elim, ne_eqb, take_all, take-append-le, take_while-cons, Object, Place, Entry, Add, Look, Drop, Pin, Scan, MovedIn, Closed, Drained, at_group, IsTree, is_child, first_moved, step, IsOutcome, is_closing, is_closed, Family, moved_in, before_closed, without_child, items_given, lists_moved_at, items_at, items_of, IsAllowed, MayStand, IsLegal}
 use Rattle.shr_model.specs.Items.{items_from, AreOutcomes}
-use Rattle.shr_model.specs.Families.{lists_moved, items_within, moved_by}
+use Rattle.shr_model.specs.Families.{lists_moved, items_within}
+use Rattle.shr_model.specs.MovedItems.{moved_by}
 use Rattle.shr_model.proofs.Members.{Has, Contains_from_Has}
 use Rattle.shr_model.proofs.MovesLaws.{same_items_within, cond_agree, items_from_take}
 use Rattle.shr_model.proofs.GroupsLaws.{child_takes, child_higher}

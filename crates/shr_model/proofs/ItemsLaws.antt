@@ -2,7 +2,8 @@
 use Rattle.shr_model.proofs.Common.{◌≡◌, true, false, List, [], ◌∷◌, ◌++◌, ◌≤◌, length, take, refl, ap, sym, subst, ◌∙◌, inl, inr, arith, length-append, take-append-le, Object, Entry, step, IsOutcome, first_moved, later_moved, is_closed, is_closing, IsOpenBeforeEach, HasJournal, Add, Look, Drop, Pin, Scan, MovedIn, Closed, Drained}
 use Rattle.std.proofs.Math.Nat.{eq-or-lt_of_le}
 use Rattle.std.proofs.Math.Seq.{take-length}
-use Rattle.shr_model.specs.Items.{items_from, AreOutcomes, moved_from}
+use Rattle.shr_model.specs.Items.{items_from, AreOutcomes}
+use Rattle.shr_model.specs.MovedItems.{moved_from}
 
 -- what one entry more leaves is its step on what the others leave
 pub items_from_push : (moved : List (List Object)) (items : List Object) (es : List Entry) (e : Entry) → items_from moved items (es ++ e ∷ []) ≡ step (first_moved (moved_from moved es)) (items_from moved items es) e

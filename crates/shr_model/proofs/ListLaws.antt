@@ -2,7 +2,8 @@
 use Rattle.shr_model.proofs.Common.{◌≡◌, ℕ, Bool, true, false, ◌||◌, List, [], ◌∷◌, ◌++◌, refl, ap, sym, ◌∙◌, length, Object, Entry, Add, Look, Drop, Pin, Scan, MovedIn, Closed, Drained, step, IsOutcome, is_closing, is_closed, first_moved, later_moved, HasJournal}
 use Rattle.std.proofs.Math.Bool.{or-false}
 use Rattle.std.proofs.lemmas.List.Folds.{list_any-append}
-use Rattle.shr_model.specs.Items.{items_from, AreOutcomes, moved_from}
+use Rattle.shr_model.specs.Items.{items_from, AreOutcomes}
+use Rattle.shr_model.specs.MovedItems.{moved_from}
 use Rattle.shr_model.proofs.ItemsLaws.{items_from_push, AreOutcomes_push, IsOpenBeforeEach_push}
 
 -- a journal with one entry more is closed where it was, or where that entry closes it

@@ -6,7 +6,8 @@ use mathlib.Core.Logic.{dite}
 use native.Mathlib.Decide.{dec_le}
 use Rattle.shr_base.specs.declared.walks.Ending.{Ending}
 use Rattle.shr_base.specs.declared.walks.PassRecord.{PassRecord}
-use Rattle.shr_model.specs.Pass.{goes_on, due, ask_size, MadeOf}
+use Rattle.shr_model.specs.PassSteps.{goes_on}
+use Rattle.shr_model.specs.Pass.{due, ask_size, MadeOf}
 
 -- where the batch is at most what can be freed, each ask is a batch
 pub small_due : (b F total : ℕ) → b ≤ F → due b F total ≡ total / b

@@ -1,7 +1,8 @@
 -- The arithmetic of a pass and the deferred word at known values.
 use Rattle.shr_model.proofs.Common.{◌≡◌, ◌-◌, ◌^◌, refl, [], ◌∷◌, replicate, Some, None, Place, batch_of, delta_of, total_of, next_of, ask_of, due_asks}
 use Rattle.shr_model.specs.Pass.{due, ask_size}
-use Rattle.shr_model.specs.Deferred.{amount_of, sum_at, deferred_word}
+use Rattle.shr_model.specs.Deferred.{amount_of, deferred_word}
+use Rattle.shr_model.specs.Amounts.{sum_at}
 
 batch_default : batch_of 0 ≡ 128
 batch_default = refl

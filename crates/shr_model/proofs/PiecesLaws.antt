@@ -1,6 +1,7 @@
 -- Parts that are joined are the bytes, and bytes that are cut are the parts.
 use Rattle.shr_model.proofs.Common.{◌≡◌, ℕ, suc, ◌+◌, ◌≤◌, ◌<◌, Bool, true, false, cond, ◌&&◌, List, [], ◌∷◌, ◌++◌, length, take, drop, Option, Some, None, refl, sym, ap, ◌∙◌, arith, eq-eqb, ◌==◌, ◌-◌, nat_tests, prefix_len, list_all, take_rest}
-use Rattle.shr_model.specs.Pieces.{Parts, cut, pieces, joined, differs, is_part_of, left, next_part}
+use Rattle.shr_model.specs.Pieces.{Parts, cut, pieces, joined, differs}
+use Rattle.shr_model.specs.PieceParts.{is_part_of, left, next_part}
 
 pub one-add : (n : ℕ) → 1 + n ≡ suc n
 one-add n = omega arith

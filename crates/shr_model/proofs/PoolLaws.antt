@@ -3,7 +3,8 @@ use Rattle.shr_model.proofs.Common.{◌≡◌, ◌≢◌, ◌⊎◌, ℕ, zero, 
 use mathlib.Core.Logic.{dite}
 use native.Mathlib.Decide.{dec_lt}
 use Rattle.std.proofs.Common.{ne_eqb, lt-ltb, le-ltb}
-use Rattle.shr_model.specs.Pool.{id_of, phase_of, decl_after, decl_from, number_after, number_from, Registration, end_of, registrations, HaveEndedBy, is_before, lies_in, decl_at, from_after, from_from, dying_in, is_free, is_live_below, lowest_free}
+use Rattle.shr_model.specs.Pool.{id_of, phase_of, decl_after, decl_from, number_after, number_from, Registration, end_of, registrations, is_before, lies_in, decl_at, from_after, from_from, is_free, is_live_below, lowest_free}
+use Rattle.shr_model.specs.PoolEnds.{HaveEndedBy, dying_in}
 
 -- 1 where the entry is of the id
 abbrev pub one_of : ℕ → PoolEntry → ℕ

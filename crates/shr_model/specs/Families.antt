@@ -101,11 +101,6 @@ pub record IsLegal (parents : List ℕ) (family : Family) (place : Place) : Type
   pub stands : (n : ℕ) (e : Entry) → slice_get (family place) n ≡ Some e → MayStand parents place.group (take n (family place)) e
   pub outcomes : AreOutcomes (lists_moved_at parents family place) [] (family place)
 
--- the objects that an entry moves in where this is what each child's list gives
-abbrev pub moved_by : (ℕ → List Object) → Entry → List Object
-moved_by given (MovedIn child objects) = given child
-moved_by given e = []
-
 -- the two journals of a child and its parent fit at this place: the child's has a Closed exactly
 -- where the parent's has its MovedIn
 abbrev pub IsPairedAt : List ℕ → Family → Place → Type 0

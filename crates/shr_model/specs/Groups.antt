@@ -1,16 +1,10 @@
 -- The tree of groups, by the list of their parents.
-use Rattle.std.specs.Prelude.{◌≡◌, ℕ, zero, suc, ◌<◌, Bool, false, ◌&&◌, ◌==◌, nat_lt, if◌then◌else◌, List, [], ◌∷◌, length, slice_index, slice_index_or, filter, flat_map, Contains}
+use Rattle.std.specs.Prelude.{ℕ, zero, suc, Bool, false, ◌&&◌, ◌==◌, nat_lt, if◌then◌else◌, List, [], ◌∷◌, length, slice_index, slice_index_or, filter, flat_map, Contains}
 use Rattle.std.specs.List.{range_with_len}
 
 -- the parent of a group; the root is its own
 abbrev pub parent_of : List ℕ → ℕ → ℕ
 parent_of parents group = slice_index parents group
-
--- group 0 is the root, and each other group has a parent with a lower number
-pub record IsTree (parents : List ℕ) : Type 0 where
-  pub has_root : 0 < length parents
-  pub root : parent_of parents 0 ≡ 0
-  pub lower : (group : ℕ) → 0 < group → group < length parents → parent_of parents group < group
 
 -- a group that isn't there at the start
 abbrev pub is_later : List Bool → ℕ → Bool
@@ -21,14 +15,6 @@ is_later later group = slice_index_or later group false
 pub record Hierarchy : Type 0 where
   pub parents : List ℕ
   pub later : List Bool
-
--- it is a tree; of each group it is said whether it is later; the root isn't, and the parent of one
--- that isn't isn't
-pub record IsHierarchy (h : Hierarchy) : Type 0 where
-  pub tree : IsTree h.parents
-  pub each : length h.later ≡ length h.parents
-  pub root : is_later h.later 0 ≡ false
-  pub above : (group : ℕ) → group < length h.parents → is_later h.later group ≡ false → is_later h.later (parent_of h.parents group) ≡ false
 
 -- a group, its parent, and so on to the root, in at most so many steps
 unfoldable pub path_within : ℕ → List ℕ → ℕ → List ℕ
@@ -43,10 +29,6 @@ path_of parents group = path_within group parents group
 -- a group is on the path of another
 abbrev pub IsAtOrAbove : List ℕ → ℕ → ℕ → Type 0
 IsAtOrAbove parents group below = Contains (path_of parents below) group
-
--- how many groups there are from a group to the root
-abbrev pub depth_of : List ℕ → ℕ → ℕ
-depth_of parents group = length (path_of parents group)
 
 -- one group is a child of another
 abbrev pub is_child : List ℕ → ℕ → ℕ → Bool

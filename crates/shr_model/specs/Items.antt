@@ -86,11 +86,6 @@ unfoldable pub AreOutcomes : List (List Object) → List Object → List Entry �
 AreOutcomes moved items [] = Unit {0}
 AreOutcomes moved items (e ∷ es) = IsOutcome (first_moved moved) items e × AreOutcomes (later_moved e moved) (step (first_moved moved) items e) es
 
--- the lists that are still to be moved after entries
-unfoldable pub moved_from : List (List Object) → List Entry → List (List Object)
-moved_from moved [] = moved
-moved_from moved (e ∷ es) = moved_from (later_moved e moved) es
-
 -- an entry closes its list
 abbrev pub is_closing : Entry → Bool
 is_closing Closed = true

@@ -1,5 +1,5 @@
 -- The arithmetic of a pass, over unbounded numbers. Linux: do_shrink_slab in mm/shrinker.c.
-use Rattle.std.specs.Prelude.{◌≡◌, ℕ, Bool, ◌+◌, ◌-◌, ◌*◌, ◌/◌, ◌^◌, ◌≤◌, ◌<◌, min, cond, ◌==◌, ◌||◌, nat_le, Option, None, Some, List, take, replicate, sum}
+use Rattle.std.specs.Prelude.{◌≡◌, ℕ, ◌+◌, ◌-◌, ◌*◌, ◌/◌, ◌^◌, ◌≤◌, ◌<◌, min, cond, ◌==◌, nat_le, List, take, replicate, sum}
 use Rattle.shr_base.specs.declared.walks.Ending.{Ending}
 use Rattle.shr_base.specs.declared.walks.Ending.TheVariants.{Through, Stop, NoRoom, Worn}
 use Rattle.shr_base.specs.declared.walks.PassRecord.{PassRecord}
@@ -20,14 +20,6 @@ total_of freeable nr priority seeks = min (nr / 2 ^ priority + delta_of freeable
 -- what is deferred again, of which `-` ends at 0
 abbrev pub next_of : ℕ → ℕ → ℕ → ℕ → ℕ
 next_of nr delta scanned freeable = min (nr + delta - scanned) (2 * freeable)
-
--- with `left` to scan a pass asks once more
-abbrev pub goes_on : ℕ → ℕ → ℕ → Bool
-goes_on batch left freeable = nat_le batch left || nat_le freeable left
-
--- what it then asks
-abbrev pub ask_of : ℕ → ℕ → ℕ → Option ℕ
-ask_of batch left freeable = cond (goes_on batch left freeable) (Some (min batch left)) None
 
 -- how many asks are due: each whole batch of the total, or a single one where a batch is more than
 -- can be freed

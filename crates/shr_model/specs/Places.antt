@@ -1,10 +1,6 @@
 -- Places, and their numbers in the tables.
-use Rattle.std.specs.Prelude.{ℕ, ◌+◌, ◌*◌, ◌/◌, ◌%◌, Bool, ◌&&◌, ◌==◌}
+use Rattle.std.specs.Prelude.{ℕ, ◌/◌, ◌%◌, Bool, ◌&&◌, ◌==◌}
 use Rattle.shr_base.specs.declared.places.Place.{Place}
-
--- the number of a place: those of an id stand together, and within them those of a node
-abbrev pub place_number : Place → ℕ
-place_number place = 1024 * place.id + 256 * place.node + place.group
 
 -- the unit of 64 ids that an id belongs to
 abbrev pub unit_of : ℕ → ℕ

@@ -70,11 +70,6 @@ is_live id es = phase_of id es % 3 == 1
 abbrev pub is_dying : ℕ → List PoolEntry → Bool
 is_dying id es = phase_of id es % 3 == 2
 
--- how many of so many ids are dying
-unfoldable pub dying_in : ℕ → List PoolEntry → ℕ
-dying_in zero es = 0
-dying_in (suc id) es = (if is_dying id es then 1 else 0) + dying_in id es
-
 -- an id below this bound is live with this declaration
 unfoldable pub is_live_below : ℕ → ℕ → List PoolEntry → Bool
 is_live_below decl zero es = false
@@ -118,11 +113,6 @@ registrations id (Registered d i from ∷ es) =
     if i == id then (record { decl = d; from = from; to = end_of id es } ∷ registrations id es) else registrations id es
 registrations id (Unregistered d i to ∷ es) = registrations id es
 registrations id (Idle i ∷ es) = registrations id es
-
--- each of these registrations that has ended did so by this number
-unfoldable pub HaveEndedBy : ℕ → List Registration → Type 0
-HaveEndedBy l [] = Unit {0}
-HaveEndedBy l (r ∷ rs) = ((t : ℕ) → r.to ≡ Some t → t ≤ l) × HaveEndedBy l rs
 
 -- the number is before the end, where there is one
 abbrev pub is_before : ℕ → Option ℕ → Bool

@@ -1,21 +1,8 @@
 -- The entries of tenants, whose birth group is the group of the journal.
-use Rattle.std.specs.Prelude.{◌≡◌, ℕ, Bool, true, false, List, Option, Some, None}
-use Rattle.std.specs.List.{list_all}
+use Rattle.std.specs.Prelude.{Option, Some, None}
 use Rattle.shr_base.specs.declared.places.Serial.{Serial}
 use Rattle.shr_base.specs.declared.journals.Entry.{Entry}
 use Rattle.shr_base.specs.declared.journals.Entry.TheVariants.{Add, Look, Drop, Pin}
-
--- an entry is that of a tenant's command
-abbrev pub is_tenant : Entry → Bool
-is_tenant (Add by birth added key value) = true
-is_tenant (Look by birth key hit) = true
-is_tenant (Drop by birth key kind) = true
-is_tenant (Pin by birth key pinned hit) = true
-is_tenant e = false
-
--- each entry is that of a tenant's command
-abbrev pub AreTenant : List Entry → Type 0
-AreTenant entries = list_all is_tenant entries ≡ true
 
 -- the command of a tenant's entry
 abbrev pub by_of : Entry → Option Serial
@@ -24,11 +11,3 @@ by_of (Look by birth key hit) = Some by
 by_of (Drop by birth key kind) = Some by
 by_of (Pin by birth key pinned hit) = Some by
 by_of e = None
-
--- the birth group of a tenant's entry
-abbrev pub birth_of : Entry → Option ℕ
-birth_of (Add by birth added key value) = Some birth
-birth_of (Look by birth key hit) = Some birth
-birth_of (Drop by birth key kind) = Some birth
-birth_of (Pin by birth key pinned hit) = Some birth
-birth_of e = None

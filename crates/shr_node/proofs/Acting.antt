@@ -3,7 +3,7 @@ use Rattle.shr_node.proofs.Common.{◌≡◌, ℕ, zero, suc, ◌<◌, ◌≤◌
 use Rattle.shr_base.specs.declared.journals.DropKind.TheVariants.{Dropped, Pinned}
 use Rattle.shr_base.specs.declared.replies.Spent.TheVariants as spent
 use Rattle.shr_node.specs.declared.answers.NodeAnswer.TheVariants as answers
-use Rattle.shr_model.specs.Tenants.{birth_of}
+use Rattle.shr_model.specs.TenantEntries.{birth_of}
 use Rattle.shr_model.specs.Objects.{holds, is_named}
 use Rattle.shr_model.specs.Scan.{scan_of}
 use Rattle.shr_model.proofs.ObjectLaws.{is_some_find}

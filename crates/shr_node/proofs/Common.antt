@@ -30,10 +30,12 @@ pub use Rattle.shr_model.proofs.GroupsOrder.{IsAtOrAbove-le, IsAtOrAbove-refl, I
 pub use Rattle.shr_model.proofs.Members.{Contains_from_Has, Has, Has_from_Contains}
 pub use Rattle.shr_model.proofs.MovesLaws.{closed_at}
 pub use Rattle.shr_model.specs.Families.{AreChildrenMovedIn, IsAllowed, IsBornAt, MayStand, moved_in}
-pub use Rattle.shr_model.specs.Groups.{IsAtOrAbove, IsTree, is_child, parent_of, path_of}
+pub use Rattle.shr_model.specs.Groups.{IsAtOrAbove, is_child, parent_of, path_of}
+pub use Rattle.shr_model.specs.Trees.{IsTree}
 pub use Rattle.shr_model.specs.Items.{IsOutcome, drop_kind_of, is_closed, step}
 pub use Rattle.shr_model.specs.Objects.{holds, named_in}
-pub use Rattle.shr_model.specs.Places.{at_group, place_number}
+pub use Rattle.shr_model.specs.Places.{at_group}
+pub use Rattle.shr_model.specs.PlaceNumbers.{place_number}
 pub use Rattle.shr_seats.proofs.Weighing.{Each-none, Each-push, Each-weaker, at_begins, begins_all, begins_more, begins_push, only_yes, times-push_other, times-without_other, times-without_same}
 pub use Rattle.shr_seats.specs.Shapes.{groups_in}
 pub use Rattle.shr_seats.specs.Views.{Each}

@@ -1,7 +1,7 @@
 -- What closing one list into its parent's answers.
 use Rattle.std.specs.Prelude.{◌≡◌, ℕ, [], length}
 use Rattle.shr_base.specs.declared.replies.Spent.{Spent}
-use Rattle.shr_model.specs.Places.{place_number}
+use Rattle.shr_model.specs.PlaceNumbers.{place_number}
 use Rattle.shr_core.specs.declared.view.View.{View}
 use Rattle.shr_seats.specs.declared.shape.Shape.{Shape}
 use Rattle.shr_node.specs.declared.answers.OneClose.{OneClose}

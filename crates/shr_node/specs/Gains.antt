@@ -5,7 +5,8 @@ use Rattle.shr_base.specs.declared.journals.Entry.{Entry}
 use Rattle.shr_base.specs.declared.places.Place.{Place}
 use Rattle.shr_model.specs.Groups.{IsAtOrAbove}
 use Rattle.shr_model.specs.Items.{is_closed}
-use Rattle.shr_model.specs.Places.{place_number, at_group}
+use Rattle.shr_model.specs.PlaceNumbers.{place_number}
+use Rattle.shr_model.specs.Places.{at_group}
 use Rattle.shr_core.specs.declared.view.View.{View}
 use Rattle.shr_core.specs.Parts.{Made}
 use Rattle.shr_core.specs.Gained.{nothing, Adds, OwesNoMore}

@@ -1,7 +1,7 @@
 -- Which lists of a subtree were looked at, and found open; that of its highest group counts as open. No
 -- public clause cites this.
 use Rattle.std.specs.Prelude.{◌≡◌, ◌⊎◌, ℕ, ◌<◌, Bool, true, false, List, slice_index_or}
-use Rattle.shr_model.specs.Places.{place_number}
+use Rattle.shr_model.specs.PlaceNumbers.{place_number}
 use Rattle.shr_model.specs.Groups.{parent_of, IsAtOrAbove}
 use Rattle.shr_core.specs.declared.view.View.{View}
 use Rattle.shr_seats.specs.declared.shape.Shape.{Shape}

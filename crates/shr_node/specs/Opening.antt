@@ -2,7 +2,8 @@
 use Rattle.std.specs.Prelude.{◌≡◌, ℕ, ◌<◌, [], length, false, None}
 use Rattle.shr_base.specs.declared.places.Place.{Place}
 use Rattle.shr_base.specs.declared.journals.Entry.{Entry}
-use Rattle.shr_model.specs.Places.{place_number, at_group}
+use Rattle.shr_model.specs.PlaceNumbers.{place_number}
+use Rattle.shr_model.specs.Places.{at_group}
 use Rattle.shr_model.specs.Groups.{IsAtOrAbove}
 use Rattle.shr_model.specs.Items.{is_closed, HasJournal}
 use Rattle.shr_list.specs.Listed.{Listed}

@@ -1,7 +1,8 @@
 -- A child's room and its parent's in one hand. No public clause cites this.
 use Rattle.std.specs.Prelude.{◌≡◌, ◌<◌}
 use Rattle.shr_base.specs.declared.places.Place.{Place}
-use Rattle.shr_model.specs.Places.{place_number, at_group}
+use Rattle.shr_model.specs.PlaceNumbers.{place_number}
+use Rattle.shr_model.specs.Places.{at_group}
 use Rattle.shr_model.specs.Groups.{parent_of}
 use Rattle.shr_list.specs.Listed.{Listed}
 use Rattle.shr_core.specs.declared.view.View.{View}

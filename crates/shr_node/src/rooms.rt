@@ -2,7 +2,7 @@
 
 ghost use Rattle.std.specs.Prelude.{◌≡◌, ◌==◌, ◌<◌, ◌≤◌, ◌&&◌, cond, true, length};
 ghost use Rattle.shr_base.specs.declared.replies.Spent.TheVariants as spent;
-ghost use Rattle.shr_model.specs.Places.{place_number};
+ghost use Rattle.shr_model.specs.PlaceNumbers.{place_number};
 ghost use Rattle.shr_model.specs.Groups.{parent_of};
 ghost use Rattle.shr_core.specs.Parts.{no_rooms};
 ghost use Rattle.shr_seats.specs.Shapes.{groups_in};

@@ -3,7 +3,7 @@
 ghost use Rattle.std.specs.Prelude.{◌≡◌, ◌==◌, ◌<◌, ◌≤◌, ◌&&◌, ℕ, [], length, nat_lt, slice_index, slice_index_or, true, false};
 ghost use Rattle.shr_model.specs.Groups.{is_child};
 ghost use Rattle.shr_model.specs.Items.{is_closed};
-ghost use Rattle.shr_model.specs.Places.{place_number};
+ghost use Rattle.shr_model.specs.PlaceNumbers.{place_number};
 ghost use Rattle.shr_list.specs.Listed.{IsSound};
 ghost use Rattle.shr_core.specs.declared.view.View.{View};
 ghost use Rattle.shr_core.specs.Parts.{no_rooms};

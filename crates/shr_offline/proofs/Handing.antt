@@ -3,7 +3,7 @@ use Rattle.shr_offline.proofs.Common.{◌≡◌, ℕ, suc, ◌+◌, ◌*◌, ◌
 use Rattle.std.proofs.Math.Nat.{div-lt_iff_lt-mul, div-add-mod}
 use Rattle.std.proofs.lemmas.Nat.{div-mul-add}
 use Rattle.std.proofs.lemmas.List.Elements.{Contains-append_left}
-use Rattle.shr_model.specs.Places.{place_number}
+use Rattle.shr_model.specs.PlaceNumbers.{place_number}
 use Rattle.shr_seats.specs.Weights.{Begins}
 use Rattle.shr_seats.proofs.Weighing.{begins_all, begins_more}
 use Rattle.shr_node.specs.Gains.{KnowsClosed}

@@ -2,11 +2,12 @@
 use Rattle.std.proofs.Common.{◌≡◌, ℕ, ◌+◌, List, [], ◌∷◌, ◌++◌, length, flat_map, subst, ap, ◌∙◌, append_assoc}
 use Rattle.std.proofs.lemmas.List.{append-nil}
 use Rattle.std.specs.List.{AllByRecursion}
-use Rattle.shr_report.specs.declared.report.Report.{Report}
+use Rattle.shr_laws.specs.declared.report.Report.{Report}
 use Rattle.shr_report.specs.Body.{between_lines, body_lines, IsBetweenNumbered, IsBodyNumbered}
-use Rattle.shr_report.specs.Lines.{numbered}
-use Rattle.shr_report.specs.Numbers.{ArePartsWell, IsListNumbered, IsPartNumbered, IsUseNumbered}
-use Rattle.shr_report.specs.Text.{worker_lines, place_lines, use_line}
+use Rattle.shr_laws.specs.Lines.{numbered}
+use Rattle.shr_laws.specs.PartNumbers.{ArePartsWell}
+use Rattle.shr_laws.specs.Numbers.{IsListNumbered, IsPartNumbered, IsUseNumbered}
+use Rattle.shr_laws.specs.Text.{worker_lines, place_lines, use_line}
 use Rattle.shr_print.specs.Runs.{run_of}
 use Rattle.shr_print.specs.Then.{then_text, then_known}
 use Rattle.shr_print.specs.ThenLaws.{then_whole, then_parts}

@@ -4,7 +4,7 @@ use Rattle.std.proofs.Math.Seq.{length-take-le}
 use Rattle.std.proofs.lemmas.List.{append-nil, take_more, take_all, get_or-drop}
 use Rattle.std.specs.List.{AllByRecursion}
 use Rattle.shr_model.proofs.BagLaws.{each_append}
-use Rattle.shr_report.specs.Lines.{numbered}
+use Rattle.shr_laws.specs.Lines.{numbered}
 use Rattle.shr_print.specs.Runs.{run_of}
 use Rattle.shr_print.specs.Joined.{numbered_append}
 

@@ -5,7 +5,7 @@ use Rattle.std.proofs.lemmas.List.{drop-drop}
 use Rattle.std.proofs.lemmas.Grind.{flat_map-append}
 use Rattle.std.specs.List.{AllByRecursion}
 use Rattle.shr_model.proofs.BagLaws.{each_append}
-use Rattle.shr_report.specs.Lines.{numbered}
+use Rattle.shr_laws.specs.Lines.{numbered}
 use Rattle.shr_print.specs.Runs.{run_of}
 
 -- no items

@@ -2,10 +2,10 @@
 
 ghost use Rattle.std.specs.Prelude.{◌≡◌, ◌≤◌, ◌^◌, ◌⊎◌, IfOk, OnOk, OnErr};
 ghost use Rattle.shr_outside.specs.Writing.{Writes};
-ghost use Rattle.shr_report.specs.Numbers.{HasNumbers};
+ghost use Rattle.shr_laws.specs.Numbers.{HasNumbers};
 ghost use Rattle.shr_report.specs.Same.{Determines};
-ghost use Rattle.shr_report.specs.WellFormed.{IsWellFormed};
-ghost use Rattle.shr_report.specs.Text.{reply_count, walk_count, text};
+ghost use Rattle.shr_laws.specs.WellFormed.{IsWellFormed};
+ghost use Rattle.shr_laws.specs.Text.{reply_count, walk_count, text};
 
 use crate::crew::Crew;
 use crate::sections::{Between, Lists, Uses, Workers};
@@ -13,10 +13,10 @@ use crate::then::Then;
 use crate::turns::print_section;
 use shr_base::ends::WorkerPart;
 use shr_base::memory::Memory;
+use shr_laws::report::Report;
 use shr_outside::outside::Sink;
 use shr_outside::paper::Paper;
 use shr_report::printers::Printer;
-use shr_report::report::Report;
 use shr_report::text::print_by;
 use std::alloc::Global;
 use std::thread::Threads;

@@ -3,9 +3,10 @@
 ghost use Rattle.std.specs.Prelude.{length, flat_map, refl, [], ◌∷◌};
 ghost use Rattle.std.specs.List.{AllByRecursion};
 ghost use Rattle.shr_report.specs.Body.{between_lines, IsBetweenNumbered};
-ghost use Rattle.shr_report.specs.Lines.{numbered};
-ghost use Rattle.shr_report.specs.Numbers.{IsListNumbered, IsPartNumbered, IsUseNumbered, ArePartsWell};
-ghost use Rattle.shr_report.specs.Text.{worker_lines, place_lines, use_line};
+ghost use Rattle.shr_laws.specs.Lines.{numbered};
+ghost use Rattle.shr_laws.specs.Numbers.{IsListNumbered, IsPartNumbered, IsUseNumbered};
+ghost use Rattle.shr_laws.specs.PartNumbers.{ArePartsWell};
+ghost use Rattle.shr_laws.specs.Text.{worker_lines, place_lines, use_line};
 ghost use Rattle.shr_print.specs.Runs.{run_of};
 ghost use Rattle.shr_print.specs.Joined.{texts_none, texts_joined, numbered_none, numbered_joined, facts_none, facts_joined};
 
@@ -15,11 +16,11 @@ use crate::section::Section;
 use shr_base::ends::{PlaceEnd, WorkerPart};
 use shr_base::journals::UseStep;
 use shr_base::memory::Memory;
+use shr_laws::report::Report;
 use shr_outside::outside::Sink;
 use shr_outside::paper::Paper;
 use shr_report::between::put_between;
 use shr_report::printers::put_places;
-use shr_report::report::Report;
 use shr_report::uses::put_uses;
 use shr_report::workers::put_answers;
 

@@ -11,9 +11,11 @@ use Rattle.shr_base.specs.declared.scripts.Sweep.{Sweep}
 use Rattle.shr_model.specs.Pieces.{pieces, joined}
 use Rattle.shr_script.specs.declared.kind.Kind.TheVariants.{Worker}
 use Rattle.shr_script.specs.declared.kind.Phase.TheVariants.{Workers}
-use Rattle.shr_script.specs.Content.{Content, IsSpelling, declarations, group_line, cache_line, pool_line, command_line, worker_command_lines, sweep_lines, end_line, lines_of, content_of}
+use Rattle.shr_script.specs.Content.{Content, declarations, group_line, cache_line, pool_line, command_line, worker_command_lines, sweep_lines, end_line, lines_of, content_of}
+use Rattle.shr_script.specs.Spelling.{IsSpelling}
 use Rattle.shr_script.specs.Lines.{State, Line, start, after}
-use Rattle.shr_script.specs.Script.{IsScript, AreLines, Fault, is_end_read, spell_lines, state_after_lines, lines_from, lines_read}
+use Rattle.shr_script.specs.Script.{IsScript, AreLines, is_end_read, spell_lines, state_after_lines}
+use Rattle.shr_script.specs.Faults.{Fault, lines_from, lines_read}
 use Rattle.shr_script.proofs.ContentLaws.{state_after-append}
 use Rattle.shr_script.proofs.SaidLaws.{cut_lines, commands_said, declared_state, begun}
 use Rattle.shr_script.proofs.ScriptLaws.{lines_again, script_again, with_front}

@@ -1,7 +1,8 @@
 -- The parts that a script is read in. No public clause cites this module.
 use Rattle.std.specs.Prelude.{◌≡◌, ℕ, ◌+◌, ◌<◌, ◌≤◌, List, [], ◌∷◌, ◌++◌, length, map, codes, None, sum_by}
 use Rattle.shr_base.specs.declared.scripts.WorkerScript.{WorkerScript}
-use Rattle.shr_script.specs.Content.{Content, IsSpelling}
+use Rattle.shr_script.specs.Content.{Content}
+use Rattle.shr_script.specs.Spelling.{IsSpelling}
 
 -- the line `end`, with its line feed
 abbrev pub end_text : List ℕ

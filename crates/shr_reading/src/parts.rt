@@ -1,7 +1,8 @@
 //! One part of a script, read as a script of its own.
 
 ghost use Rattle.std.specs.Prelude.{◌≡◌, ◌++◌, IfOk, IfSome};
-ghost use Rattle.shr_script.specs.Content.{content_of, IsSpelling};
+ghost use Rattle.shr_script.specs.Content.{content_of};
+ghost use Rattle.shr_script.specs.Spelling.{IsSpelling};
 ghost use Rattle.shr_reading.specs.Parts.{IsHead};
 
 use shr_base::scripts::Script;

@@ -3,8 +3,9 @@
 ghost use Rattle.std.specs.Prelude.{◌≤◌, ◌<◌, ◌^◌, ◌++◌, ℕ, length, IfOk, IfErr, IfSome};
 ghost use Rattle.std.specs.Thread.{IsSync};
 ghost use Rattle.shr_base.specs.declared.scripts.Code.{Code};
-ghost use Rattle.shr_script.specs.Content.{Content, content_of, lines_of, IsSpelling};
-ghost use Rattle.shr_script.specs.Script.{IsFault};
+ghost use Rattle.shr_script.specs.Content.{Content, content_of, lines_of};
+ghost use Rattle.shr_script.specs.Spelling.{IsSpelling};
+ghost use Rattle.shr_script.specs.Faults.{IsFault};
 ghost use Rattle.shr_script.specs.Read.{ReadsScript, IsCause, TellsFault};
 ghost use Rattle.shr_reading.specs.Parts.{IsHead, end_text};
 

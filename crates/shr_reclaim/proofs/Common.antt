@@ -15,7 +15,8 @@ pub use Rattle.shr_charge.specs.Uses.{downs_at, ups_at}
 pub use Rattle.shr_charge.specs.Views.{TreeView, Uses}
 pub use Rattle.shr_charge.specs.declared.answers.ChargeAnswer.{ChargeAnswer}
 pub use Rattle.shr_core.specs.Seats.{shape_of}
-pub use Rattle.shr_model.specs.Groups.{IsAtOrAbove, IsTree, depth_of, parent_of, path_of, preorder_of}
+pub use Rattle.shr_model.specs.Groups.{IsAtOrAbove, parent_of, path_of, preorder_of}
+pub use Rattle.shr_model.specs.Trees.{IsTree, depth_of}
 pub use Rattle.shr_model.specs.Prefixes.{IsPrefixOf}
 pub use Rattle.shr_model.specs.Walks.{Job, job, job_of}
 pub use Rattle.shr_seats.specs.Shapes.{groups_in}

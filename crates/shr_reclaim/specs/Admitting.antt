@@ -1,7 +1,7 @@
 -- What a charge with its reclaim does, by its answer.
 use Rattle.std.specs.Prelude.{◌≡◌, ◌⊎◌, ℕ, ◌+◌, ◌^◌, ◌<◌, ◌≤◌, List, length}
 use Rattle.shr_base.specs.declared.places.Serial.{Serial}
-use Rattle.shr_model.specs.Groups.{depth_of}
+use Rattle.shr_model.specs.Trees.{depth_of}
 use Rattle.shr_charge.specs.declared.answers.ChargeAnswer.TheVariants as charge
 use Rattle.shr_walk.specs.Acting.{Acting}
 use Rattle.shr_walk.specs.declared.seats.Shared.{Shared}

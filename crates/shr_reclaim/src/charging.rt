@@ -1,7 +1,7 @@
 //! A charge and its rounds.
 
 ghost use Rattle.std.specs.Prelude.{◌≡◌, ◌<◌, ◌≤◌, ◌^◌, None, IfOk, OnOk, OnErr};
-ghost use Rattle.shr_model.specs.Groups.{depth_of};
+ghost use Rattle.shr_model.specs.Trees.{depth_of};
 ghost use Rattle.shr_charge.specs.Seat.{spent_by};
 ghost use Rattle.shr_seats.specs.Shapes.{groups_in};
 ghost use Rattle.shr_core.specs.Seats.{shape_of};

@@ -22,7 +22,7 @@ pub use Rattle.shr_core.specs.Tells.{HasPool, IsOfPool, Raises, pool_of}
 pub use Rattle.shr_core.specs.declared.setting.Setting.{Setting}
 pub use Rattle.shr_core.specs.declared.table.Core.{Core}
 pub use Rattle.shr_core.specs.declared.view.View.{View}
-pub use Rattle.shr_model.specs.Places.{place_number}
+pub use Rattle.shr_model.specs.PlaceNumbers.{place_number}
 pub use Rattle.shr_model.specs.Pool.{decl_at, decl_of, from_of, is_live, is_live_below, is_live_decl, lowest_free, lowest_idle, phase_of, registrations}
 pub use Rattle.shr_node.specs.Draining.{AreDraws, Draw, IsDraw, IsFilled, drawn, made_by_draws}
 pub use Rattle.shr_node.specs.Gains.{Gains}

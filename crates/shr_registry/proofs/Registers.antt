@@ -1,6 +1,7 @@
 -- The phase step that registers a declaration.
 use Rattle.shr_registry.proofs.Common.{◌≡◌, ℕ, zero, suc, ◌+◌, ◌%◌, ◌<◌, ◌≤◌, Bool, true, false, cond, eqb, List, [], ◌∷◌, ◌++◌, length, sym, refl, ap, subst, ◌∙◌, arith, eq-eqb, Some, None, Option, nat_tests, LookupWord, PoolEntry, Registered, Unregistered, Idle, phase_of, is_live_decl, lowest_idle, View, Shape, Holding, places_in, pool_content, content_in, with_word, with_phase, turn_at, MayPhase, HasPool, pool_of, Raises, Brings, Loads, only_pool, IsLiveAs, IsFree, RegisterLacksMemory, Gained, nothing, Begins, Setting, RoomContent, Hand, with_content, FindsLive, FindsNoId, Registers}
-use Rattle.shr_model.specs.Pool.{is_dying, dying_in}
+use Rattle.shr_model.specs.Pool.{is_dying}
+use Rattle.shr_model.specs.PoolEnds.{dying_in}
 use Rattle.shr_core.proofs.LookupSteps.{lowest_free_is}
 use Rattle.shr_core.proofs.Gains.{of_word, of_phase}
 use Rattle.shr_registry.proofs.Searches.{loads_word, loads_then, live_below}

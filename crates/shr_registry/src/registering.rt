@@ -3,7 +3,7 @@
 ghost use Rattle.std.specs.Prelude.{◌≡◌, ◌<◌, ◌≤◌, ◌*◌, length, true};
 ghost use Rattle.shr_seats.specs.Standing.{IsWhole};
 ghost use Rattle.shr_seats.specs.Weights.{Begins};
-ghost use Rattle.shr_model.specs.Pool.{dying_in};
+ghost use Rattle.shr_model.specs.PoolEnds.{dying_in};
 ghost use Rattle.shr_core.specs.Parts.{no_rooms};
 ghost use Rattle.shr_core.specs.Seats.{view_of, shape_of};
 ghost use Rattle.shr_registry.specs.Adding.{only_pool, IsFree};

@@ -3,7 +3,8 @@
 ghost use Rattle.std.specs.Prelude.{◌≡◌, ◌+◌, ◌*◌, ◌<◌, ◌≤◌, ℕ, List, [], ◌∷◌, ◌++◌, length, true, IfSome, Some, None};
 ghost use Rattle.shr_base.specs.declared.journals.PoolEntry.{PoolEntry as PoolEntryValue};
 ghost use Rattle.shr_base.specs.declared.journals.PoolEntry.TheVariants.{Idle};
-ghost use Rattle.shr_model.specs.Pool.{dying_in, from_of, from_after};
+ghost use Rattle.shr_model.specs.PoolEnds.{dying_in};
+ghost use Rattle.shr_model.specs.Pool.{from_of, from_after};
 ghost use Rattle.shr_seats.specs.Weights.{Begins};
 ghost use Rattle.shr_core.specs.Parts.{Turn, no_rooms};
 ghost use Rattle.shr_seats.specs.Views.{Each};

@@ -1,6 +1,6 @@
 -- The hexadecimal digits of a word, from the last to the first.
 use Rattle.shr_report.proofs.Common.{◌≡◌, ℕ, List, zero, suc, ◌-◌, ◌/◌, ◌%◌, ◌<◌, ◌≤◌, [], ◌∷◌, ◌++◌, refl, sym, ap, ◌∙◌, arith, append_assoc, sub-one, codes, hex_digit}
-use Rattle.shr_report.specs.Lines.{hex_digits}
+use Rattle.shr_laws.specs.Lines.{hex_digits}
 
 -- one digit behind those of a sixteenth of a number gives the digits of the number
 hex_more : (digits n d : ℕ) → 0 < digits → d ≡ hex_digit (n % 16) → hex_digits (digits - 1) (n / 16) ++ d ∷ [] ≡ hex_digits digits n

@@ -1,8 +1,8 @@
 -- Parts of a text one after the other.
 use Rattle.shr_report.proofs.Common.{◌≡◌, ℕ, ◌+◌, ◌<◌, ◌≤◌, List, [], ◌∷◌, ◌++◌, length, take, drop, get_or, flat_map, refl, sym, ap, ◌∙◌, append_assoc, prefix_len, take_more, drop_more, drop_all, append-nil, take-append-drop, Attempt, MapSeen, Answered, reply_line, found_lines, attempt_line, map_line, is_in_unit, Logs, log_lines, after_command, drop-drop}
 use Rattle.std.proofs.lemmas.Grind.{flat_map-append}
-use Rattle.shr_report.specs.WalkText.{map_lines}
-use Rattle.shr_report.specs.Text.{answer_lines}
+use Rattle.shr_laws.specs.WalkText.{map_lines}
+use Rattle.shr_laws.specs.Text.{answer_lines}
 
 -- one unit more with its attempts
 pub units_next : (maps : List MapSeen) (i : ℕ) (d m : MapSeen) (all : List Attempt) (at n : ℕ) → i < length maps → m ≡ get_or maps i d → n ≡ prefix_len (is_in_unit m.unit) (drop at all)

@@ -1,7 +1,7 @@
 -- The names of the pools of units and the journal of registrations are parted in one way, though the
 -- lines of both begin with `pool`: a name's has two words behind that, and an entry's more.
 use Rattle.shr_report.proofs.Common.{◌≡◌, ℕ, ◌+◌, true, List, [], ◌∷◌, ◌++◌, refl, sym, ap, ◌∙◌, append_assoc, AllByRecursion, is_name, PoolEntry, units_name_line, pool_entry_line, read_units_name, read_pool}
-use Rattle.shr_report.specs.Lines.{numbered}
+use Rattle.shr_laws.specs.Lines.{numbered}
 use Rattle.shr_report.proofs.Printed.{one_line}
 use Rattle.shr_report.proofs.LinesBack.{printed_pool}
 use Rattle.shr_report.proofs.PlainLinesBack.{printed_units_name, count_words, counted_name, words_of, counted_pool, not_two}

@@ -1,7 +1,7 @@
 -- Items in order with their numbers, one more.
 use Rattle.std.proofs.Common.{◌≡◌, ℕ, ◌+◌, ◌<◌, ◌≤◌, List, [], ◌∷◌, ◌++◌, length, drop, get_or, sym, ap, ◌∙◌}
 use Rattle.std.proofs.lemmas.List.{drop_more, drop_all, get_or_default}
-use Rattle.shr_report.specs.Lines.{numbered}
+use Rattle.shr_laws.specs.Lines.{numbered}
 
 -- the item at i, whose number is n
 pub numbered_next : {X : Type 0} (f : ℕ → X → List ℕ) (xs : List X) (i n m : ℕ) (x : X) → i < length xs → x ≡ get_or xs i x → m ≡ n + 1 → numbered f n (drop i xs) ≡ f n x ++ numbered f m (drop (i + 1) xs)

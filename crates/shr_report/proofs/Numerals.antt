@@ -2,7 +2,7 @@
 use Rattle.shr_report.proofs.Common.{◌≡◌, ℕ, zero, suc, ◌^◌, ◌<◌, refl, arith, decimal}
 use Rattle.std.specs.Fmt.{digits}
 use Rattle.std.proofs.lemmas.Fmt.{decimal-digits_of}
-use Rattle.shr_report.specs.Lines.{numeral}
+use Rattle.shr_laws.specs.Lines.{numeral}
 
 pub decimal_is : (n : ℕ) → n < 2 ^ 64 → decimal n ≡ numeral n
 unfolding digits numeral

@@ -2,7 +2,7 @@
 use Rattle.shr_report.proofs.Common.{◌≡◌, ℕ, List, zero, suc, ◌^◌, ◌<◌, ◌≤◌, ◌+◌, ◌/◌, ◌%◌, [], ◌∷◌, ◌++◌, length, map, refl, ap, ◌∙◌, arith, decimal, digits_of}
 use Rattle.std.proofs.lemmas.Int.Digits.{digits_of_step}
 use Rattle.std.proofs.lemmas.Fmt.{length-decimal-le}
-use Rattle.shr_report.specs.Lines.{numeral}
+use Rattle.shr_laws.specs.Lines.{numeral}
 use Rattle.shr_report.proofs.Numerals.{decimal_is}
 
 -- a number below ten is one digit

@@ -3,7 +3,7 @@ use Rattle.shr_report.proofs.Common.{◌≡◌, ℕ, zero, suc, ◌+◌, ◌*◌
 use Rattle.std.proofs.lemmas.Int.Digits.{number_digits_of, all_below_base_digits_of}
 use Rattle.shr_model.specs.Paths.{is_path, all_parts}
 use Rattle.shr_model.specs.Pieces.{pieces, joined}
-use Rattle.shr_report.specs.Lines.{numeral, hex_digits}
+use Rattle.shr_laws.specs.Lines.{numeral, hex_digits}
 use Rattle.shr_report.proofs.Peel.{is_plain, is_plain_word}
 use Rattle.shr_report.specs.ReadWords.{num, digit_of, hex_onto, unhex, starts_minus, later_bytes, signed_num}
 

@@ -1,6 +1,6 @@
 -- The text of a report determines it.
 use Rattle.shr_report.proofs.Common.{◌≡◌, ℕ, ◌+◌, ◌-◌, ◌<◌, true, List, [], ◌∷◌, ◌++◌, length, map, flat_map, refl, sym, ap, subst, ◌∙◌, append_assoc, arith, codes, AllByRecursion, AllZip, range_with_len, is_path, is_name, each_append, each_weaker, MapEnd, Report, line, numbered, numeral, numbered_group_line, numbered_cache_line, units_name_line, pool_entry_line, tree_line, worker_lines, place_lines, units_lines, bit_line, deferred_line, pool_deferred_line, use_line, lookups_line, end_lines, IsPoolAmountWell, IsPartWell, IsBitWord, map_units, bit_places, IsWellFormed, IsSameUnits, read_group, read_cache, read_tree, read_amount, read_pool_amount, read_bit, read_use, read_lookups, Totals, totals, read_total, read_version, read_size, IsOneReport}
-use Rattle.shr_report.specs.Text.{reply_count, walk_count, text}
+use Rattle.shr_laws.specs.Text.{reply_count, walk_count, text}
 use Rattle.shr_report.proofs.Printed.{one_line}
 use Rattle.shr_report.proofs.LinesBack.{printed_group, printed_cache, printed_tree, IsPrintable, printed_bit, printed_deferred, printed_use, printed_lookups, printed_total, printed_version, printed_size}
 use Rattle.shr_report.proofs.Sections.{kind, kind_group, kind_cache, kind_pool, kind_units_name, kind_tree, kind_bit, kind_deferred, kind_pool_deferred, kind_use, kind_lookups, kind_total, after_items, lines_once, lines_each, flat_once, flat_each, after_flat, all_both}

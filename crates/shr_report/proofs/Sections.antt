@@ -4,7 +4,7 @@ use Rattle.shr_base.specs.declared.journals.Entry.TheVariants as entry
 use Rattle.shr_base.specs.declared.journals.PlainEntry.TheVariants as units
 use Rattle.shr_base.specs.declared.journals.PoolEntry.TheVariants as pool
 use Rattle.shr_base.specs.declared.journals.TreeEntry.TheVariants as tree
-use Rattle.shr_report.specs.Lines.{numbered}
+use Rattle.shr_laws.specs.Lines.{numbered}
 use Rattle.shr_report.proofs.LinesBack.{walk_line}
 use Rattle.shr_report.proofs.PlainLinesBack.{plain_line, units_line}
 use Rattle.shr_report.proofs.Printed.{Printed, one_line}

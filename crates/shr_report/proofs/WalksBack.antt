@@ -1,7 +1,7 @@
 -- Walks are parted in one way: each with its maps and its attempts.
 use Rattle.shr_report.proofs.Common.{◌≡◌, ℕ, List, [], ◌∷◌, ◌++◌, drop, flat_map, refl, sym, ap, ◌∙◌, append_assoc, arith, take_while, AllByRecursion, prefix_len, take-append-drop, Serial, Attempt, MapSeen, WalkRecord, attempt_line, map_line, is_in_unit, walk_lines, IsBitWord, IsSameWalk, read_attempt, read_map, WalkHead, read_walk}
 use Rattle.std.proofs.lemmas.List.Concat.{flat_map-append}
-use Rattle.shr_report.specs.WalkText.{map_lines}
+use Rattle.shr_laws.specs.WalkText.{map_lines}
 use Rattle.shr_report.proofs.Printed.{one_line}
 use Rattle.shr_report.proofs.LinesBack.{head_of, walk_line, printed_walk, printed_attempt, printed_map}
 use Rattle.shr_report.proofs.Sections.{kind, kind_map, kind_attempt, kind_walk, flat_each, after_flat}

@@ -1,7 +1,7 @@
 -- The workers of a report are parted in one way.
 use Rattle.shr_report.proofs.Common.{◌≡◌, ℕ, suc, ◌+◌, ◌<◌, ◌≤◌, List, [], ◌∷◌, ◌++◌, length, map, Some, ◌⊎◌, inl, inr, refl, sym, ap, subst, ◌∙◌, append_assoc, arith, slice_get, AllByRecursion, AllZip, AllAdjacentBelow, Serial, Reply, Answered, WalkRecord, Carry, PlainWalk, Isolation, WorkerPart, reply_line, logs_of, worker_lines, LendsWord, AreOfCommands, IsPartWell, read_reply_line, add-zero, slice_index_or, IsWalkWell, IsSamePart}
-use Rattle.shr_report.specs.Lines.{numbered}
-use Rattle.shr_report.specs.Text.{answer_lines}
+use Rattle.shr_laws.specs.Lines.{numbered}
+use Rattle.shr_laws.specs.Text.{answer_lines}
 use Rattle.shr_report.proofs.Printed.{one_line}
 use Rattle.shr_report.proofs.LinesBack.{printed_reply}
 use Rattle.shr_report.proofs.Sections.{kind, kind_reply, all_any}

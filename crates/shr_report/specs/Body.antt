@@ -1,10 +1,11 @@
 -- The body of a report's text: all from the workers' parts to the operations.
 use Rattle.std.specs.Prelude.{List, ◌++◌, ℕ, flat_map}
 use Rattle.std.specs.List.{AllByRecursion}
-use Rattle.shr_report.specs.declared.report.Report.{Report}
-use Rattle.shr_report.specs.Lines.{numbered}
-use Rattle.shr_report.specs.Numbers.{ArePartsWell, AreUnitsNumbered, IsListNumbered, IsMapNumbered, IsPartNumbered, IsUseNumbered}
-use Rattle.shr_report.specs.Text.{bit_line, deferred_line, place_lines, pool_deferred_line, units_lines, use_line, worker_lines}
+use Rattle.shr_laws.specs.declared.report.Report.{Report}
+use Rattle.shr_laws.specs.Lines.{numbered}
+use Rattle.shr_laws.specs.PartNumbers.{ArePartsWell}
+use Rattle.shr_laws.specs.Numbers.{AreUnitsNumbered, IsListNumbered, IsMapNumbered, IsPartNumbered, IsUseNumbered}
+use Rattle.shr_laws.specs.Text.{bit_line, deferred_line, place_lines, pool_deferred_line, units_lines, use_line, worker_lines}
 
 -- what stands between the lists and the operations: the pools, the bit words and the deferred words
 abbrev pub between_lines : Report → List ℕ

@@ -4,8 +4,8 @@ use Rattle.std.specs.Prelude.{◌≤◌, length, take, drop}
 use Rattle.std.specs.List.{AllByRecursion}
 use Rattle.shr_base.specs.declared.ends.WorkerPart.{WorkerPart}
 use Rattle.shr_report.specs.declared.logs.Printed.{Printed}
-use Rattle.shr_report.specs.Text.{Logs}
-use Rattle.shr_report.specs.Numbers.{IsWalkNumbered, IsCarryNumbered, IsPlainNumbered, IsIsolationNumbered}
+use Rattle.shr_laws.specs.Text.{Logs}
+use Rattle.shr_laws.specs.Numbers.{IsWalkNumbered, IsCarryNumbered, IsPlainNumbered, IsIsolationNumbered}
 
 -- what is left to print
 abbrev pub logs_from : WorkerPart → Printed → Logs

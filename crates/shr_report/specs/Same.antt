@@ -6,9 +6,9 @@ use Rattle.shr_base.specs.declared.walks.PlainWalk.{PlainWalk}
 use Rattle.shr_base.specs.declared.ends.PlaceEnd.{PlaceEnd}
 use Rattle.shr_base.specs.declared.ends.UnitsEnd.{UnitsEnd}
 use Rattle.shr_base.specs.declared.ends.WorkerPart.{WorkerPart}
-use Rattle.shr_report.specs.declared.report.Report.{Report}
-use Rattle.shr_report.specs.Text.{text}
-use Rattle.shr_report.specs.WellFormed.{IsWellFormed}
+use Rattle.shr_laws.specs.declared.report.Report.{Report}
+use Rattle.shr_laws.specs.Text.{text}
+use Rattle.shr_laws.specs.WellFormed.{IsWellFormed}
 
 -- the two are one walk
 pub record IsSameWalk (v w : WalkRecord) : Type 0 where

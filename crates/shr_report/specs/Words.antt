@@ -1,6 +1,6 @@
 -- The text of a word.
 use Rattle.std.specs.Prelude.{ℕ, List, ◌∷◌, map}
-use Rattle.shr_report.specs.Lines.{numeral}
+use Rattle.shr_laws.specs.Lines.{numeral}
 use Rattle.shr_report.specs.declared.lines.Word.{Word}
 use Rattle.shr_report.specs.declared.lines.Word.TheVariants.{Text, Value, Number}
 

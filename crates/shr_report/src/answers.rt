@@ -2,9 +2,9 @@
 
 ghost use Rattle.std.specs.Prelude.{◌≡◌, ◌≤◌, ◌+◌, ◌++◌, ◌∷◌, [], codes, drop, length};
 ghost use Rattle.shr_outside.specs.Paper.{Prints};
-ghost use Rattle.shr_report.specs.Lines.{line, spaced, numeral};
-ghost use Rattle.shr_report.specs.Numbers.{IsAtNumbered, IsReplyNumbered, IsFindNumbered, IsAnsweredNumbered};
-ghost use Rattle.shr_report.specs.AnswerText.{at_words, reply_line, found_lines};
+ghost use Rattle.shr_laws.specs.Lines.{line, spaced, numeral};
+ghost use Rattle.shr_laws.specs.Numbers.{IsAtNumbered, IsReplyNumbered, IsFindNumbered, IsAnsweredNumbered};
+ghost use Rattle.shr_laws.specs.AnswerText.{at_words, reply_line, found_lines};
 
 use crate::counters::add_place;
 use crate::lines::Word::{Number, Text, Value};

@@ -4,15 +4,15 @@ ghost use Rattle.std.specs.Prelude.{◌≡◌, ◌≤◌, ◌++◌, ◌∷◌, [
 ghost use Rattle.shr_outside.specs.Paper.{Prints};
 ghost use Rattle.std.specs.List.{AllByRecursion};
 ghost use Rattle.shr_report.specs.Body.{between_lines, IsBetweenNumbered};
-ghost use Rattle.shr_report.specs.Lines.{spaced};
-ghost use Rattle.shr_report.specs.Numbers.{IsMapNumbered};
-ghost use Rattle.shr_report.specs.Text.{bits_words, bit_line, deferred_line};
+ghost use Rattle.shr_laws.specs.Lines.{spaced};
+ghost use Rattle.shr_laws.specs.Numbers.{IsMapNumbered};
+ghost use Rattle.shr_laws.specs.Text.{bits_words, bit_line, deferred_line};
 
 use crate::lines::put_amount;
 use crate::piece::Piece;
-use crate::report::Report;
 use crate::units::{pool_ends, pool_words};
 use shr_base::ends::{MapEnd, PlaceAmount};
+use shr_laws::report::Report;
 use shr_outside::outside::Sink;
 use shr_outside::paper::Paper;
 

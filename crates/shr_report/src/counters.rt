@@ -1,10 +1,10 @@
 //! The words of a place, and of a counter that is used up.
 
 ghost use Rattle.std.specs.Prelude.{◌≡◌, ◌≤◌, ◌+◌, ◌++◌, drop};
-ghost use Rattle.shr_report.specs.Lines.{spaced};
-ghost use Rattle.shr_report.specs.WellFormed.{IsNumbered};
-ghost use Rattle.shr_report.specs.Numbers.{IsSpentNumbered};
-ghost use Rattle.shr_report.specs.AnswerText.{place_words, spent_words};
+ghost use Rattle.shr_laws.specs.Lines.{spaced};
+ghost use Rattle.shr_laws.specs.WellFormed.{IsNumbered};
+ghost use Rattle.shr_laws.specs.Numbers.{IsSpentNumbered};
+ghost use Rattle.shr_laws.specs.AnswerText.{place_words, spent_words};
 
 use crate::piece::Piece;
 use shr_base::places::Place;

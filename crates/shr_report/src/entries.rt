@@ -2,14 +2,14 @@
 
 ghost use Rattle.std.specs.Prelude.{◌≡◌, ◌≤◌, ◌+◌, ◌++◌, ◌∷◌, [], codes, drop, flat_map, length};
 ghost use Rattle.shr_outside.specs.Paper.{Prints};
-ghost use Rattle.shr_report.specs.Lines.{line, numeral, spaced};
+ghost use Rattle.shr_laws.specs.Lines.{line, numeral, spaced};
 ghost use Rattle.std.specs.List.{AllByRecursion};
 ghost use Rattle.shr_base.specs.declared.journals.Entry.TheVariants.{Add};
-ghost use Rattle.shr_report.specs.Numbers.{IsSerialNumbered, IsObjectNumbered, IsEntryNumbered, IsListNumbered};
+ghost use Rattle.shr_laws.specs.Numbers.{IsSerialNumbered, IsObjectNumbered, IsEntryNumbered, IsListNumbered};
 ghost use Rattle.shr_report.specs.Variants.{IsTenants, IsOfNoTenant};
-ghost use Rattle.shr_report.specs.WellFormed.{IsNumbered};
-ghost use Rattle.shr_report.specs.AnswerText.{choice, place_words};
-ghost use Rattle.shr_report.specs.Text.{policy_word, kind_word, item_line, entry_line, place_lines};
+ghost use Rattle.shr_laws.specs.WellFormed.{IsNumbered};
+ghost use Rattle.shr_laws.specs.AnswerText.{choice, place_words};
+ghost use Rattle.shr_laws.specs.Text.{policy_word, kind_word, item_line, entry_line, place_lines};
 
 use crate::counters::add_place;
 use crate::lines::{add_text, add_value, end_with};

@@ -1,4 +1,4 @@
-//! The report of a run: its type, its text, and when it is lawful.
+//! How a report is printed, and that its text determines it.
 #![tactic(auto)]
 
 mod answers;
@@ -10,7 +10,6 @@ mod logs;
 mod piece;
 mod plain;
 pub mod printers;
-pub mod report;
 pub mod text;
 pub mod text_law;
 mod units;

@@ -4,8 +4,8 @@
 
 ghost use Rattle.std.specs.Prelude.{◌≡◌, ◌<◌, [], ◌∷◌, ◌++◌};
 ghost use Rattle.shr_outside.specs.Paper.{Prints};
-ghost use Rattle.shr_report.specs.Lines.{line, spaced, numeral};
-ghost use Rattle.shr_report.specs.WellFormed.{IsNumbered, IsBitWord};
+ghost use Rattle.shr_laws.specs.Lines.{line, spaced, numeral};
+ghost use Rattle.shr_laws.specs.WellFormed.{IsNumbered, IsBitWord};
 ghost use Rattle.shr_report.specs.Words.{word_text, word_texts};
 
 use itoa::Buffer;

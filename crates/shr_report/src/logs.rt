@@ -4,11 +4,11 @@
 ghost use Rattle.std.specs.Prelude.{◌≡◌, ◌<◌, ◌≤◌, ◌^◌, ◌+◌, flat_map, length};
 ghost use Rattle.shr_outside.specs.Paper.{Prints};
 ghost use Rattle.std.specs.List.{AllByRecursion, prefix_len};
-ghost use Rattle.shr_report.specs.Numbers.{IsWalkNumbered, IsCarryNumbered, IsPlainNumbered, IsIsolationNumbered};
-ghost use Rattle.shr_report.specs.Lines.{numbered};
+ghost use Rattle.shr_laws.specs.Numbers.{IsWalkNumbered, IsCarryNumbered, IsPlainNumbered, IsIsolationNumbered};
+ghost use Rattle.shr_laws.specs.Lines.{numbered};
 ghost use Rattle.shr_report.specs.Printing.{logs_from, IsPrintedWithin, AreNumberedTo};
-ghost use Rattle.shr_report.specs.WalkText.{walk_lines, carry_line, plain_lines, isolation_line};
-ghost use Rattle.shr_report.specs.Text.{is_walk_of, is_carry_of, is_plain_of, is_isolation_of, log_lines, after_command};
+ghost use Rattle.shr_laws.specs.WalkText.{walk_lines, carry_line, plain_lines, isolation_line};
+ghost use Rattle.shr_laws.specs.Text.{is_walk_of, is_carry_of, is_plain_of, is_isolation_of, log_lines, after_command};
 
 use crate::lines::put_amount;
 use crate::piece::Piece;

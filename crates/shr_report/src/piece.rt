@@ -2,8 +2,8 @@
 
 ghost use Rattle.std.specs.Prelude.{◌≡◌, ◌<◌, ◌≤◌, ◌+◌, [], ◌∷◌, ◌++◌, codes, drop, length};
 ghost use Rattle.shr_outside.specs.Paper.{Prints};
-ghost use Rattle.shr_report.specs.Lines.{numeral, signed_numeral, hex, hex_digit};
-ghost use Rattle.shr_report.specs.AnswerText.{choice};
+ghost use Rattle.shr_laws.specs.Lines.{numeral, signed_numeral, hex, hex_digit};
+ghost use Rattle.shr_laws.specs.AnswerText.{choice};
 
 use itoa::write_digits;
 use shr_outside::outside::Sink;

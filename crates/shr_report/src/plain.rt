@@ -3,9 +3,9 @@
 ghost use Rattle.std.specs.Prelude.{◌≡◌, ◌<◌, ◌≤◌, ◌+◌, ◌^◌, ◌++◌, ◌∷◌, codes, drop};
 ghost use Rattle.shr_outside.specs.Paper.{Prints};
 ghost use Rattle.std.specs.List.{AllByRecursion};
-ghost use Rattle.shr_report.specs.Lines.{line, spaced, numbered, numeral};
-ghost use Rattle.shr_report.specs.Numbers.{IsTryNumbered, IsPlainAnswerNumbered, IsPlainNumbered, IsIsolationNumbered};
-ghost use Rattle.shr_report.specs.WalkText.{plain_walked_words, plain_try_words, pass_line, plain_lines, isolation_line};
+ghost use Rattle.shr_laws.specs.Lines.{line, spaced, numbered, numeral};
+ghost use Rattle.shr_laws.specs.Numbers.{IsTryNumbered, IsPlainAnswerNumbered, IsPlainNumbered, IsIsolationNumbered};
+ghost use Rattle.shr_laws.specs.WalkText.{plain_walked_words, plain_try_words, pass_line, plain_lines, isolation_line};
 
 use crate::counters::add_place;
 use crate::piece::Piece;

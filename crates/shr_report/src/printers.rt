@@ -4,16 +4,16 @@ ghost use Rattle.std.specs.Prelude.{flat_map};
 ghost use Rattle.shr_outside.specs.Paper.{Prints};
 ghost use Rattle.std.specs.List.{AllByRecursion};
 ghost use Rattle.shr_report.specs.Body.{body_lines, IsBodyNumbered};
-ghost use Rattle.shr_report.specs.Numbers.{IsListNumbered};
-ghost use Rattle.shr_report.specs.Text.{place_lines};
+ghost use Rattle.shr_laws.specs.Numbers.{IsListNumbered};
+ghost use Rattle.shr_laws.specs.Text.{place_lines};
 
 use crate::between::put_between;
 use crate::entries::place;
 use crate::piece::Piece;
-use crate::report::Report;
 use crate::uses::put_uses;
 use crate::workers::put_workers;
 use shr_base::ends::PlaceEnd;
+use shr_laws::report::Report;
 use shr_outside::outside::Sink;
 use shr_outside::paper::Paper;
 

@@ -3,20 +3,20 @@
 ghost use Rattle.std.specs.Prelude.{◌≡◌, ◌≤◌, ◌^◌, ◌⊎◌, IfOk, OnOk, OnErr, ◌∷◌, [], sum_by, length};
 ghost use Rattle.shr_outside.specs.Paper.{Prints, IsLeft};
 ghost use Rattle.shr_outside.specs.Writing.{Writes};
-ghost use Rattle.shr_report.specs.Lines.{line, numbered, numeral};
-ghost use Rattle.shr_report.specs.Numbers.{HasNumbers};
+ghost use Rattle.shr_laws.specs.Lines.{line, numbered, numeral};
+ghost use Rattle.shr_laws.specs.Numbers.{HasNumbers};
 ghost use Rattle.shr_report.specs.Same.{Determines};
-ghost use Rattle.shr_report.specs.WellFormed.{IsWellFormed};
-ghost use Rattle.shr_report.specs.Text.{pool_entry_line, tree_line, lookups_line, head_lines, journal_lines, end_lines, reply_count, walk_count, text};
+ghost use Rattle.shr_laws.specs.WellFormed.{IsWellFormed};
+ghost use Rattle.shr_laws.specs.Text.{pool_entry_line, tree_line, lookups_line, head_lines, journal_lines, end_lines, reply_count, walk_count, text};
 
 use crate::lines::Word::{Number, Text as Bytes};
 use crate::lines::{put_amount, put_line};
 use crate::printers::{Alone, Printer};
-use crate::report::Report;
 use shr_base::ends::WorkerPart;
 use shr_base::journals::{PoolEntry, TreeEntry};
 use shr_base::memory::Memory;
 use shr_base::text::Text;
+use shr_laws::report::Report;
 use shr_outside::outside::Sink;
 use shr_outside::paper::Paper;
 

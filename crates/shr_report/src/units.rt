@@ -3,9 +3,9 @@
 ghost use Rattle.std.specs.Prelude.{◌≡◌, ◌≤◌, [], ◌∷◌, codes, drop, flat_map};
 ghost use Rattle.shr_outside.specs.Paper.{Prints};
 ghost use Rattle.std.specs.List.{AllByRecursion};
-ghost use Rattle.shr_report.specs.Lines.{line, numeral};
-ghost use Rattle.shr_report.specs.Numbers.{IsPlainEntryNumbered, AreUnitsNumbered};
-ghost use Rattle.shr_report.specs.Text.{plain_entry_line, units_lines, pool_deferred_line};
+ghost use Rattle.shr_laws.specs.Lines.{line, numeral};
+ghost use Rattle.shr_laws.specs.Numbers.{IsPlainEntryNumbered, AreUnitsNumbered};
+ghost use Rattle.shr_laws.specs.Text.{plain_entry_line, units_lines, pool_deferred_line};
 
 use crate::lines::Word::Number;
 use crate::lines::put_line;

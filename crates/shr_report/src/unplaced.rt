@@ -1,10 +1,10 @@
 //! The words of an answer that isn't of a place's entry.
 
 ghost use Rattle.std.specs.Prelude.{◌≡◌, ◌≤◌, ◌+◌, ◌++◌, ◌∷◌, [], drop, length};
-ghost use Rattle.shr_report.specs.Lines.{spaced, numeral};
-ghost use Rattle.shr_report.specs.Numbers.{IsWhyNumbered, IsIsolateEndNumbered, IsReplyNumbered};
+ghost use Rattle.shr_laws.specs.Lines.{spaced, numeral};
+ghost use Rattle.shr_laws.specs.Numbers.{IsWhyNumbered, IsIsolateEndNumbered, IsReplyNumbered};
 ghost use Rattle.shr_report.specs.Variants.{IsOfGroup, IsOfOffline, IsOfMaking, IsOfCache, IsFreedAnswer, IsHalfAnswer, IsIsolated, IsPoolAnswer, IsUnplaced};
-ghost use Rattle.shr_report.specs.AnswerText.{why_words, isolate_end_words, answer_words};
+ghost use Rattle.shr_laws.specs.AnswerText.{why_words, isolate_end_words, answer_words};
 
 use crate::counters::add_spent;
 use crate::piece::Piece;

@@ -3,9 +3,9 @@
 ghost use Rattle.std.specs.Prelude.{◌≡◌, ◌≤◌, ◌+◌, ◌++◌, ◌∷◌, [], drop, flat_map, length};
 ghost use Rattle.shr_outside.specs.Paper.{Prints};
 ghost use Rattle.std.specs.List.{AllByRecursion};
-ghost use Rattle.shr_report.specs.Lines.{spaced, numeral};
-ghost use Rattle.shr_report.specs.Numbers.{IsSerialNumbered, IsUseNumbered};
-ghost use Rattle.shr_report.specs.Text.{use_line};
+ghost use Rattle.shr_laws.specs.Lines.{spaced, numeral};
+ghost use Rattle.shr_laws.specs.Numbers.{IsSerialNumbered, IsUseNumbered};
+ghost use Rattle.shr_laws.specs.Text.{use_line};
 
 use crate::piece::Piece;
 use shr_base::journals::UseStep;

@@ -2,12 +2,12 @@
 
 ghost use Rattle.std.specs.Prelude.{◌≡◌, ◌<◌, ◌≤◌, ◌+◌, ◌^◌, ◌++◌, ◌∷◌, codes, drop, flat_map, length};
 ghost use Rattle.shr_outside.specs.Paper.{Prints};
-ghost use Rattle.shr_report.specs.Lines.{line, spaced, numeral};
+ghost use Rattle.shr_laws.specs.Lines.{line, spaced, numeral};
 ghost use Rattle.std.specs.List.{AllByRecursion, prefix_len};
-ghost use Rattle.shr_report.specs.Numbers.{IsShort, IsEndingNumbered, IsPassNumbered, IsOutcomeNumbered, IsAttemptNumbered, IsSeenNumbered, IsWalkedNumbered, IsWalkNumbered};
+ghost use Rattle.shr_laws.specs.Numbers.{IsShort, IsEndingNumbered, IsPassNumbered, IsOutcomeNumbered, IsAttemptNumbered, IsSeenNumbered, IsWalkedNumbered, IsWalkNumbered};
 ghost use Rattle.shr_report.specs.Variants.{IsPassed, IsClearing};
-ghost use Rattle.shr_report.specs.AnswerText.{choice};
-ghost use Rattle.shr_report.specs.WalkText.{ending_words, pass_words, gone_word, outcome_words, attempt_line, is_in_unit, map_line, map_lines, walked_words, walk_lines};
+ghost use Rattle.shr_laws.specs.AnswerText.{choice};
+ghost use Rattle.shr_laws.specs.WalkText.{ending_words, pass_words, gone_word, outcome_words, attempt_line, is_in_unit, map_line, map_lines, walked_words, walk_lines};
 
 use crate::counters::add_spent;
 use crate::piece::Piece;

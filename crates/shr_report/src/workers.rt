@@ -2,10 +2,11 @@
 
 ghost use Rattle.shr_outside.specs.Paper.{Prints};
 ghost use Rattle.std.specs.List.{AllByRecursion};
-ghost use Rattle.shr_report.specs.Numbers.{IsPartNumbered, ArePartsWell};
-ghost use Rattle.shr_report.specs.WellFormed.{IsPartWell};
-ghost use Rattle.shr_report.specs.Lines.{numbered};
-ghost use Rattle.shr_report.specs.Text.{worker_lines};
+ghost use Rattle.shr_laws.specs.Numbers.{IsPartNumbered};
+ghost use Rattle.shr_laws.specs.PartNumbers.{ArePartsWell};
+ghost use Rattle.shr_laws.specs.WellFormed.{IsPartWell};
+ghost use Rattle.shr_laws.specs.Lines.{numbered};
+ghost use Rattle.shr_laws.specs.Text.{worker_lines};
 
 use crate::answers::put_answered;
 use crate::logs::{Printed, logs};

@@ -20,7 +20,7 @@ pub use Rattle.shr_pool.specs.Lines.{queue_line}
 pub use Rattle.shr_pool.specs.declared.items.SweepItem.{SweepItem}
 pub use Rattle.shr_pool.specs.declared.jobs.JobQueue.{JobQueue}
 pub use Rattle.shr_pool.specs.declared.view.PassView.{PassView}
-pub use Rattle.shr_report.specs.Parts.{parents_of}
+pub use Rattle.shr_laws.specs.Parts.{parents_of}
 pub use Rattle.shr_script.proofs.BoundsLaws.{within_of_valid}
 pub use Rattle.shr_script.specs.Content.{content_of}
 pub use Rattle.shr_seats.specs.Standing.{IsWhole, Standing, at_first}

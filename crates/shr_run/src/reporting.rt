@@ -1,10 +1,11 @@
 //! The report of a script's run.
 
 ghost use Rattle.std.specs.Prelude.{◌≡◌, ◌+◌, IfOk};
-ghost use Rattle.shr_report.specs.Faithful.{IsFaithful};
-ghost use Rattle.shr_report.specs.Lawful.{IsLawful};
-ghost use Rattle.shr_report.specs.Puts.{AreFreePutsAdded, DoPutsAddUp};
-ghost use Rattle.shr_report.specs.WellFormed.{IsWellFormed};
+ghost use Rattle.shr_laws.specs.Faithful.{IsFaithful};
+ghost use Rattle.shr_laws.specs.Lawful.{IsLawful};
+ghost use Rattle.shr_laws.specs.Puts.{AreFreePutsAdded};
+ghost use Rattle.shr_laws.specs.PutSums.{DoPutsAddUp};
+ghost use Rattle.shr_laws.specs.WellFormed.{IsWellFormed};
 ghost use Rattle.shr_script.specs.Content.{content_of, IsValid};
 ghost use Rattle.shr_run.specs.Made.{IsReportOfRun};
 
@@ -12,8 +13,8 @@ use crate::running::{Ran, run};
 use shr_assemble::assembling::assemble;
 use shr_base::memory::Memory;
 use shr_base::scripts::Script;
+use shr_laws::report::Report;
 use shr_outside::outside::Gate;
-use shr_report::report::Report;
 use std::alloc::Global;
 use std::sync::Wait;
 use std::thread::Threads;

@@ -14,18 +14,24 @@ pub use Rattle.shr_base.specs.declared.scripts.Command.{Command}
 pub use Rattle.shr_base.specs.declared.scripts.GroupDecl.{GroupDecl}
 pub use Rattle.shr_base.specs.declared.scripts.PoolDecl.{PoolDecl}
 pub use Rattle.shr_model.proofs.PiecesLaws.{and_true, cut_first, joined_cut, pieces_joined, pieces_parts}
-pub use Rattle.shr_model.specs.Groups.{Hierarchy, IsHierarchy, is_later}
+pub use Rattle.shr_model.specs.Groups.{Hierarchy, is_later}
+pub use Rattle.shr_model.specs.Trees.{IsHierarchy}
 pub use Rattle.shr_model.specs.Paths.{is_path, parent_path, root_path}
-pub use Rattle.shr_model.specs.Pieces.{left, next_part, pieces}
+pub use Rattle.shr_model.specs.PieceParts.{left, next_part}
+pub use Rattle.shr_model.specs.Pieces.{pieces}
 pub use Rattle.shr_words.proofs.ClassLaws.{IsClean, bind_ok, chosen_below, flag_again, flag_is, items_again, items_take, line_parts, no_feed, ok_is, place_takes, policy_again, policy_is, shape_is, words_clean}
-pub use Rattle.shr_words.specs.Classes.{AreOf, Chosen, Class, IsOfClass, Item, Kinds, L, N, NameTest, Number, Plain, Policies, PoolKinds, Starts, W, Walks, Word, behind_first, fifth, first, flag_place, fourth, item_of, items_said, number_said, place_of, policy_at, policy_place, second, seventh, sixth, third, word_said, words_left, words_of, ◌>>=◌}
+pub use Rattle.shr_words.specs.Classes.{AreOf, Chosen, Class, IsOfClass, Item, Kinds, L, N, NameTest, Number, Plain, Policies, PoolKinds, Starts, W, Walks, Word, behind_first, fifth, first, flag_place, fourth, number_said, place_of, policy_place, second, seventh, sixth, third, word_said, words_of, ◌>>=◌}
+pub use Rattle.shr_words.specs.WordReading.{item_of, items_said, policy_at, words_left}
 pub use Rattle.shr_script.specs.Bounds.{IfServed, IsCache, IsCommandWithin, IsGroup, IsIsolationWithin, IsObjectWithin, IsPool, IsPoolCommandWithin, IsPoolWithin, IsSweepWithin, IsWalkWithin, IsWithin, content_hierarchy, content_later}
-pub use Rattle.shr_script.specs.Content.{HaveParentsBefore, Content, IsSpelling, IsValid, cache_line, command_line, declarations, end_line, group_line, header_line, lines_of, or_root, pool_line, size_line, spell, sweep_line, sweep_lines, worker_line, worker_command_lines}
+pub use Rattle.shr_script.specs.Content.{HaveParentsBefore, Content, IsValid, cache_line, command_line, declarations, end_line, group_line, header_line, lines_of, or_root, pool_line, size_line, spell, sweep_line, sweep_lines, worker_line, worker_command_lines}
+pub use Rattle.shr_script.specs.Spelling.{IsSpelling}
 pub use Rattle.shr_script.specs.Drafted.{Drafted, Ends, added, cache_decl, command_by, content_by, drafted, empty, kind_step, made_by, part_step, pool_decl, run_from, with_command}
-pub use Rattle.shr_script.specs.Lines.{Line, State, after, allowed, as_header, cache_class, classes, first_word, group_class, has, is_served, later_class, may_hold_group, misplaced, most_groups, most_ids, node_class, own, pool_class, refused_if, serves_isolation, serves_pools, start, unless, verb_classes}
+pub use Rattle.shr_script.specs.Lines.{Line, State, after, allowed, cache_class, classes, first_word, group_class, has, is_served, later_class, may_hold_group, misplaced, most_groups, most_ids, node_class, own, pool_class, refused_if, serves_isolation, serves_pools, start, unless, verb_classes}
+pub use Rattle.shr_script.specs.LineReading.{as_header}
 pub use Rattle.shr_script.specs.Read.{IsCause, ReadsScript, Runs, TellsFault, error_at, run_of}
 pub use Rattle.shr_script.specs.Said.{said_state}
-pub use Rattle.shr_script.specs.Script.{Fault, IsFault, IsLine, IsScript, at_line, behind, is_end_read, is_last, lines_read, part_verdict, spell_lines, state_after_lines, ◌>>>◌}
+pub use Rattle.shr_script.specs.Faults.{Fault, IsFault, at_line, behind, is_last, lines_read, part_verdict, ◌>>>◌}
+pub use Rattle.shr_script.specs.Script.{IsLine, IsScript, is_end_read, spell_lines, state_after_lines}
 pub use Rattle.shr_script.specs.declared.kind.Kind.{Kind}
 pub use Rattle.shr_script.specs.declared.kind.Kind.TheVariants.{Cache, End, Group, Header, Pool, Size, Sweep, Work, Worker}
 pub use Rattle.shr_script.specs.declared.kind.Phase.{Phase}

@@ -2,7 +2,8 @@
 use Rattle.shr_script.proofs.Common.{◌≡◌, ℕ, ◌+◌, ◌≤◌, ◌<◌, Bool, true, false, cond, List, [], ◌∷◌, ◌++◌, length, Option, Some, None, Result, Ok, refl, sym, ap, subst, ◌∙◌, arith, nat_le, nat_lt, not, bytes_eq, ◌&&◌, ◌==◌, length_push, root_path, parent_path, Code, ◌>>=◌, Word, Item, word_said, number_said, first, seventh, place_of, bind_ok, Kind, Header, Size, Group, Cache, Pool, Worker, Work, Sweep, End, Phase, Start, Sizes, Groups, Caches, Pools, Workers, Swept, Done, State, start, Line, misplaced, unless, own, after, has, may_hold_group, refused_if, most_groups, IsLine, IsScript, is_end_read, Drafted, added, part_step, ◌^◌}
 use Rattle.shr_base.specs.declared.scripts.Code.TheVariants as codes_of
 use Rattle.shr_script.specs.Lines.{group_rule, cache_rule, pool_rule}
-use Rattle.shr_script.specs.Script.{state_after_lines, AreLines, verdict}
+use Rattle.shr_script.specs.Script.{state_after_lines, AreLines}
+use Rattle.shr_script.specs.Faults.{verdict}
 use Rattle.shr_script.proofs.LineLaws.{may_stand}
 use Rattle.shr_script.proofs.ScriptLaws.{not_last, next_at}
 use Rattle.shr_script.proofs.RunLaws.{part_is, told}

@@ -5,8 +5,10 @@ use Rattle.shr_model.specs.Pieces.{joined}
 use Rattle.shr_base.specs.declared.objects.Policy.TheVariants.{Plain as PlainPolicy}
 use Rattle.shr_base.specs.declared.scripts.Command.TheVariants as commands
 use Rattle.shr_base.specs.declared.scripts.Code.TheVariants.{UnknownWord, UnknownCache, BadNumber, Exists, TooMany, NoWorker}
-use Rattle.shr_words.specs.Classes.{number_spelled, is_numeral, chosen_of, listed_of, passes, place_of}
-use Rattle.shr_script.specs.Lines.{kind_at, kind_of, verb_of, pool_rule}
+use Rattle.shr_words.specs.WordReading.{number_spelled, is_numeral, chosen_of, listed_of}
+use Rattle.shr_words.specs.Classes.{passes, place_of}
+use Rattle.shr_script.specs.LineReading.{kind_at, kind_of, verb_of}
+use Rattle.shr_script.specs.Lines.{pool_rule}
 use Rattle.shr_script.specs.Script.{spell_lines}
 
 -- ---- the spelling

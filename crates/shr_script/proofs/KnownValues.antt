@@ -5,7 +5,8 @@ use Rattle.shr_model.specs.Pieces.{cut, pieces, joined}
 use Rattle.shr_model.specs.Paths.{is_path, parent_path}
 use Rattle.shr_base.specs.declared.scripts.Act.{Act}
 use Rattle.shr_base.specs.declared.scripts.Code.TheVariants.{NoParent, UnknownGroup}
-use Rattle.shr_words.specs.Classes.{listed_of, passes, place_of}
+use Rattle.shr_words.specs.WordReading.{listed_of}
+use Rattle.shr_words.specs.Classes.{passes, place_of}
 use Rattle.shr_script.specs.Lines.{group_rule}
 use Rattle.shr_base.specs.declared.objects.Policy.TheVariants.{Plain as PlainPolicy}
 use Rattle.shr_base.specs.declared.scripts.Command.TheVariants as commands

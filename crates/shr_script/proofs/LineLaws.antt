@@ -1,7 +1,8 @@
 -- A line that was read is spelled so, and a line that is spelled is read as itself.
 use Rattle.shr_script.proofs.Common.{◌≡◌, ℕ, Bool, true, false, cond, List, [], ◌∷◌, Option, Some, None, Ok, Err, refl, ap, subst, ◌∙◌, bytes_eq, option_map, bytes_eq-Decides, Code, ◌>>=◌, Word, items_said, words_of, bind_ok, ok_is, Kind, Header, Size, Group, Cache, Pool, Worker, Work, Sweep, End, Verb, Put, On, Get, Del, SetPin, Shrink, Balance, Offline, MkGroup, Register, Unregister, Isolate, Release, Grab, Phase, State, Line, first_word, misplaced, unless, is_served, allowed, classes, own, IsLine, items_take, items_again, IsClean}
-use Rattle.shr_words.specs.Classes.{taken}
-use Rattle.shr_script.specs.Lines.{verb_word, kind_of, verb_of, unknown, kind_at, plain_line}
+use Rattle.shr_words.specs.WordReading.{taken}
+use Rattle.shr_script.specs.Lines.{verb_word, unknown}
+use Rattle.shr_script.specs.LineReading.{kind_of, verb_of, kind_at, plain_line}
 
 -- ---- first words
 

@@ -1,8 +1,8 @@
 -- A line that begins with put is one of a put.
 use Rattle.shr_script.proofs.Common.{◌≡◌, ℕ, List, ◌++◌, refl, codes, Word, Work, Put, Workers, State, Drafted, kind_step}
 use Rattle.shr_model.specs.Pieces.{cut, pieces}
-use Rattle.shr_words.specs.Classes.{taken}
-use Rattle.shr_script.specs.Lines.{kind_at, kind_of, verb_of}
+use Rattle.shr_words.specs.WordReading.{taken}
+use Rattle.shr_script.specs.LineReading.{kind_at, kind_of, verb_of}
 use Rattle.shr_script.specs.Drafted.{plain_step}
 
 -- among workers such a line is a put of the words behind it

@@ -1,10 +1,11 @@
 -- A run over the parts of a script is the reading of its lines, and what they make.
 use Rattle.shr_script.proofs.Common.{◌≡◌, ℕ, ◌+◌, Bool, true, false, cond, ◌&&◌, List, [], ◌∷◌, Option, Some, None, Result, Ok, Err, refl, sym, ap, subst, ◌∙◌, bytes_eq, Code, pieces, next_part, ◌>>=◌, Word, Item, items_said, Kind, Phase, Start, Sizes, Groups, Caches, Pools, Workers, Swept, Done, State, Line, classes, own, after, as_header, is_end_read, part_verdict, is_last, Fault, ◌>>>◌, at_line, behind, Drafted, added, kind_step}
 use Rattle.shr_base.specs.declared.scripts.Code.TheVariants as codes_of
-use Rattle.shr_words.specs.Classes.{taken}
+use Rattle.shr_words.specs.WordReading.{taken}
 use Rattle.shr_script.proofs.CommandLaws.{kind_step_is}
-use Rattle.shr_script.specs.Lines.{kind_at, plain_line, line_of}
-use Rattle.shr_script.specs.Script.{state_after_lines, verdict, lines_from}
+use Rattle.shr_script.specs.LineReading.{kind_at, plain_line, line_of}
+use Rattle.shr_script.specs.Script.{state_after_lines}
+use Rattle.shr_script.specs.Faults.{verdict, lines_from}
 use Rattle.shr_script.specs.Drafted.{plain_step, headed, line_step, part_by, part_step, run_from, made_by}
 
 -- what a line leads to

@@ -2,9 +2,11 @@
 -- the first bad line.
 use Rattle.shr_script.proofs.Common.{◌≡◌, ℕ, suc, ◌+◌, Bool, true, false, cond, List, [], ◌∷◌, ◌++◌, length, Option, Some, None, Result, Ok, Err, refl, sym, ap, subst, ◌∙◌, append_assoc, arith, inl, inr, ◌⊎◌, bytes_eq, append-nil, bytes_eq-Decides, Code, Word, words_of, and_true, bind_ok, ok_is, Kind, Phase, Start, Sizes, Groups, Caches, Pools, Workers, Swept, Done, State, start, Line, first_word, misplaced, unless, allowed, classes, after, as_header, IsLine, is_end_read, IsScript, part_verdict, is_last, IsFault, Fault, ◌>>>◌, at_line, behind, lines_read, zero-add, list_all, cut_first, joined_cut, pieces_parts, pieces_joined, words_clean, line_parts, no_feed}
 use Rattle.shr_base.specs.declared.scripts.Code.TheVariants as codes_of
-use Rattle.shr_model.specs.Pieces.{cut, pieces, joined, is_part_of}
-use Rattle.shr_script.specs.Lines.{plain_line, line_of}
-use Rattle.shr_script.specs.Script.{line_text, spell_lines, state_after_lines, AreLines, verdict, IsFaultFrom, lines_from}
+use Rattle.shr_model.specs.Pieces.{cut, pieces, joined}
+use Rattle.shr_model.specs.PieceParts.{is_part_of}
+use Rattle.shr_script.specs.LineReading.{plain_line, line_of}
+use Rattle.shr_script.specs.Script.{line_text, spell_lines, state_after_lines, AreLines}
+use Rattle.shr_script.specs.Faults.{verdict, IsFaultFrom, lines_from}
 use Rattle.shr_script.proofs.LineLaws.{first_clean, may_stand, line_takes, line_again}
 
 -- ---- one line

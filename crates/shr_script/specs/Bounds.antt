@@ -1,7 +1,8 @@
 -- What a valid script keeps, in plain words.
 use Rattle.std.specs.Prelude.{◌≡◌, ◌⊎◌, ℕ, ◌+◌, ◌<◌, ◌≤◌, Bool, true, false, List, [], ◌∷◌, map, length, None, IfSome, sum_by}
 use Rattle.std.specs.List.{AllByRecursion, count_by}
-use Rattle.shr_model.specs.Groups.{Hierarchy, IsTree, IsHierarchy, is_later}
+use Rattle.shr_model.specs.Groups.{Hierarchy, is_later}
+use Rattle.shr_model.specs.Trees.{IsTree, IsHierarchy}
 use Rattle.shr_model.specs.Paths.{is_path}
 use Rattle.shr_model.specs.Words.{is_key, is_value, is_name}
 use Rattle.shr_base.specs.declared.places.Target.{Target}

@@ -1,5 +1,5 @@
 -- What a script says, the lines that say it, and its one spelling.
-use Rattle.std.specs.Prelude.{◌≡◌, ℕ, true, false, List, [], ◌∷◌, ◌++◌, map, flat_map, Option, Some, None}
+use Rattle.std.specs.Prelude.{◌≡◌, ℕ, List, [], ◌∷◌, ◌++◌, map, flat_map, Option, Some, None}
 use Rattle.shr_model.specs.Paths.{root_path, parent_path}
 use Rattle.shr_base.specs.declared.scripts.GroupDecl.{GroupDecl}
 use Rattle.shr_base.specs.declared.scripts.CacheDecl.{CacheDecl}
@@ -126,8 +126,3 @@ HaveParentsBefore paths (g ∷ gs) = (g.parent ≡ or_root (place_of (parent_pat
 pub record IsValid (t : Content) : Type 0 where
   pub lines : IsScript (lines_of t)
   pub parents : HaveParentsBefore (root_path ∷ []) t.groups
-
--- these bytes spell the script, which is valid
-pub record IsSpelling (bytes : List ℕ) (t : Content) : Type 0 where
-  pub valid : IsValid t
-  pub spelled : bytes ≡ spell t

@@ -11,7 +11,8 @@ use Rattle.shr_base.specs.declared.scripts.PoolDecl.{PoolDecl}
 use Rattle.shr_base.specs.declared.scripts.Sweep.{Sweep}
 use Rattle.shr_base.specs.declared.scripts.Command.{Command}
 use Rattle.shr_base.specs.declared.scripts.Command.TheVariants as commands
-use Rattle.shr_words.specs.Classes.{◌>>=◌, Word, Item, number_said, word_said, limit_said, first, second, third, fourth, fifth, sixth, seventh, policy_at, taken, items_said, place_of}
+use Rattle.shr_words.specs.Classes.{◌>>=◌, Word, Item, number_said, word_said, first, second, third, fourth, fifth, sixth, seventh, place_of}
+use Rattle.shr_words.specs.WordReading.{limit_said, policy_at, taken, items_said}
 use Rattle.shr_script.specs.declared.kind.Kind.{Kind}
 use Rattle.shr_script.specs.declared.kind.Kind.TheVariants.{Header, Size, Group, Cache, Pool, Worker, Work, End}
 use Rattle.shr_script.specs.declared.kind.Kind.TheVariants as kinds
@@ -22,8 +23,10 @@ use Rattle.shr_script.specs.declared.kind.Phase.TheVariants.{Start, Workers}
 use Rattle.shr_script.specs.declared.draft.Draft.{Draft}
 use Rattle.shr_script.specs.declared.stopped.Stopped.{Stopped}
 use Rattle.shr_script.specs.declared.stopped.Stopped.TheVariants as stops
-use Rattle.shr_script.specs.Lines.{State, Line, classes, verb_classes, refused_if, own, after, kind_at}
-use Rattle.shr_script.specs.Script.{is_end_read, is_last, Fault, at_line, ◌>>>◌}
+use Rattle.shr_script.specs.Lines.{State, Line, classes, verb_classes, refused_if, own, after}
+use Rattle.shr_script.specs.LineReading.{kind_at}
+use Rattle.shr_script.specs.Script.{is_end_read}
+use Rattle.shr_script.specs.Faults.{is_last, Fault, at_line, ◌>>>◌}
 use Rattle.shr_script.specs.Content.{Content, or_root}
 
 -- the declarations, the commands of the workers that are complete, those of the last worker, and the

@@ -1,6 +1,9 @@
 pub mod Lines
+pub mod LineReading
 pub mod Script
+pub mod Faults
 pub mod Content
+pub mod Spelling
 pub mod Drafted
 pub mod Said
 pub mod Read

@@ -1,12 +1,12 @@
 -- The lines of a script: which may stand where, the classes of their words, and their own rules.
-use Rattle.std.specs.Prelude.{ℕ, ◌+◌, Bool, true, false, ◌&&◌, ◌||◌, ◌==◌, not, nat_le, nat_lt, if◌then◌else◌, List, [], ◌∷◌, ◌++◌, length, bytes_eq, codes, Option, Some, None, option_map, Result, Ok, Err}
+use Rattle.std.specs.Prelude.{ℕ, ◌+◌, Bool, true, false, ◌&&◌, ◌||◌, ◌==◌, not, nat_le, nat_lt, if◌then◌else◌, List, [], ◌∷◌, ◌++◌, length, bytes_eq, codes, Option, Some, None, Result, Ok, Err}
 use Rattle.std.specs.Option.{is_some}
 use Rattle.shr_base.specs.declared.scripts.Act.TheVariants.{Get, Del, SetPin}
 use Rattle.shr_base.specs.declared.scripts.Code.{Code}
 use Rattle.shr_base.specs.declared.scripts.Code.TheVariants as codes_of
 use Rattle.shr_model.specs.Paths.{root_path, parent_path}
 use Rattle.shr_model.specs.Groups.{is_later}
-use Rattle.shr_words.specs.Classes.{◌>>=◌, Word, Class, Number, Limit, Plain, Valued, Listed, Marked, Chosen, PathTest, NameTest, KeyTest, Policies, Kinds, Starts, Walks, PoolKinds, Item, number_said, word_said, first, second, seventh, taken, items_said, place_of}
+use Rattle.shr_words.specs.Classes.{◌>>=◌, Word, Class, Number, Limit, Plain, Valued, Listed, Marked, Chosen, PathTest, NameTest, KeyTest, Policies, Kinds, Starts, Walks, PoolKinds, Item, number_said, word_said, first, second, seventh, place_of}
 use Rattle.shr_script.specs.declared.kind.Kind.{Kind}
 use Rattle.shr_script.specs.declared.kind.Kind.TheVariants.{Header, Size, Group, Cache, Pool, Worker, Work, Sweep, End}
 use Rattle.shr_script.specs.declared.kind.Verb.{Verb}
@@ -49,37 +49,6 @@ first_word Worker = codes "worker"
 first_word (Work verb) = verb_word verb
 first_word Sweep = codes "sweep"
 first_word End = codes "end"
-
--- the command that a word names
-unfoldable pub verb_of : Word → Option Verb
-verb_of w =
-    if bytes_eq w (codes "put") then Some Put else
-    (if bytes_eq w (codes "get") then Some (On Get) else
-    (if bytes_eq w (codes "del") then Some (On Del) else
-    (if bytes_eq w (codes "pin") then Some (On (SetPin true)) else
-    (if bytes_eq w (codes "unpin") then Some (On (SetPin false)) else
-    (if bytes_eq w (codes "shrink") then Some Shrink else
-    (if bytes_eq w (codes "balance") then Some Balance else
-    (if bytes_eq w (codes "offline") then Some Offline else
-    (if bytes_eq w (codes "mkgroup") then Some MkGroup else
-    (if bytes_eq w (codes "register") then Some Register else
-    (if bytes_eq w (codes "unregister") then Some Unregister else
-    (if bytes_eq w (codes "isolate") then Some Isolate else
-    (if bytes_eq w (codes "release") then Some Release else
-    (if bytes_eq w (codes "grab") then Some Grab else None)))))))))))))
-
--- the kind of line that a word names
-unfoldable pub kind_of : Word → Option Kind
-kind_of w =
-    if bytes_eq w (codes "shrinkers") then Some Header else
-    (if bytes_eq w (codes "size") then Some Size else
-    (if bytes_eq w (codes "group") then Some (Group false) else
-    (if bytes_eq w (codes "later") then Some (Group true) else
-    (if bytes_eq w (codes "cache") then Some Cache else
-    (if bytes_eq w (codes "pool") then Some Pool else
-    (if bytes_eq w (codes "worker") then Some Worker else
-    (if bytes_eq w (codes "sweep") then Some Sweep else
-    (if bytes_eq w (codes "end") then Some End else option_map Work (verb_of w)))))))))
 
 -- Between the size and the first worker stand caches, behind the groups, and pools, behind the
 -- caches; a command or a sweep has no worker yet.
@@ -157,10 +126,6 @@ is_served version k = true
 abbrev pub allowed : ℕ → Phase → Option Kind → Result Kind Code
 allowed version p None = Err (unknown p)
 allowed version p (Some k) = if is_served version k then unless (misplaced p k) k else Err (unknown p)
-
--- the kind that a first word names, where it may stand
-unfoldable pub kind_at : ℕ → Phase → Word → Result Kind Code
-kind_at version p w = allowed version p (kind_of w)
 
 -- ---- what the lines so far have said
 
@@ -316,16 +281,3 @@ after st (Work verb) xs = record st { commands = st.commands + 1 }
 -- a line is of a kind, and its words say these items
 abbrev pub Line : Type 0
 Line = Kind × List Item
-
--- the kind and the items of a line, or the code of what is first wrong with it
-unfoldable pub plain_line : State → List Word → Result Line Code
-plain_line st ws = taken ws >>= λ w. kind_at st.version st.phase w.0 >>= λ k. items_said (classes st k) w.1 >>= λ xs. own st k xs >>= λ _. Ok (k, xs)
-
--- the first line is BadHeader whatever it lacks
-abbrev pub as_header : Phase → Result Line Code → Result Line Code
-as_header Start (Err e) = Err codes_of.BadHeader
-as_header p r = r
-
--- the same, but that anything wrong with the first line is BadHeader
-unfoldable pub line_of : State → List Word → Result Line Code
-line_of st ws = as_header st.phase (plain_line st ws)

@@ -10,7 +10,7 @@ use Rattle.shr_script.specs.declared.draft.Draft.{Draft}
 use Rattle.shr_script.specs.declared.said.Said.{Said}
 use Rattle.shr_script.specs.Said.{said_state}
 use Rattle.shr_script.specs.Lines.{State, start}
-use Rattle.shr_script.specs.Script.{IsFault, Fault}
+use Rattle.shr_script.specs.Faults.{IsFault, Fault}
 use Rattle.shr_script.specs.Content.{Content, content_of}
 use Rattle.shr_script.specs.Drafted.{Drafted, drafted, empty, run_from}
 

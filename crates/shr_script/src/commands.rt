@@ -1,6 +1,6 @@
 //! The command that a line says behind its first word.
 
-ghost use Rattle.shr_words.specs.Classes.{words_left};
+ghost use Rattle.shr_words.specs.WordReading.{words_left};
 ghost use Rattle.shr_script.specs.Said.{said_state};
 ghost use Rattle.shr_script.specs.Drafted.{AnswersAsRead, command_said};
 ghost use Rattle.shr_script.specs.declared.kind.Verb.TheVariants.{Put, On, Shrink, Balance, Isolate, Release, Grab};

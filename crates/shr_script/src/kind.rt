@@ -1,8 +1,9 @@
 //! The kinds of lines, and which may stand where.
 
 ghost use Rattle.std.specs.Prelude.{◌≡◌};
-ghost use Rattle.shr_words.specs.Classes.{Gives};
-ghost use Rattle.shr_script.specs.Lines.{kind_of, verb_of, before_workers, among_workers, misplaced, unknown, is_served, kind_at};
+ghost use Rattle.shr_words.specs.WordReading.{Gives};
+ghost use Rattle.shr_script.specs.LineReading.{kind_of, verb_of, kind_at};
+ghost use Rattle.shr_script.specs.Lines.{before_workers, among_workers, misplaced, unknown, is_served};
 
 use shr_base::scripts::{Act, Code};
 
@@ -58,7 +59,7 @@ const SERVES_ISOLATION: bool = true;
 
 const SERVES_SWEEP: bool = true;
 
-#[tactic(auto, unfolding(crate::specs::Lines::verb_of))]
+#[tactic(auto, unfolding(crate::specs::LineReading::verb_of))]
 fn verb_of(word: &[u8]) -> Option<Verb>
     ensures { result ≡ verb_of word.now }
 {
@@ -95,7 +96,7 @@ fn verb_of(word: &[u8]) -> Option<Verb>
     }
 }
 
-#[tactic(auto, unfolding(crate::specs::Lines::kind_of))]
+#[tactic(auto, unfolding(crate::specs::LineReading::kind_of))]
 fn kind_of(word: &[u8]) -> Option<Kind>
     ensures { result ≡ kind_of word.now }
 {
@@ -185,7 +186,7 @@ fn is_served(version: u8, kind: Kind) -> bool
 
 /// The kind that a first word names, where such a line may stand in a script of this version. Our
 /// own.
-#[tactic(auto, unfolding(crate::specs::Lines::kind_at))]
+#[tactic(auto, unfolding(crate::specs::LineReading::kind_at))]
 pub fn kind_at(version: u8, phase: Phase, word: &[u8]) -> Result<Kind, Code>
     ensures { Gives (λ k. k) result (kind_at version phase word.now) }
 {

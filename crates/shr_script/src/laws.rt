@@ -2,8 +2,9 @@
 
 ghost use Rattle.std.specs.Prelude.{◌≡◌, ℕ, List, ◌⊎◌};
 ghost use Rattle.shr_base.specs.declared.scripts.Code.{Code};
-ghost use Rattle.shr_script.specs.Content.{Content, IsValid, IsSpelling, spell};
-ghost use Rattle.shr_script.specs.Script.{Fault, IsFault};
+ghost use Rattle.shr_script.specs.Content.{Content, IsValid, spell};
+ghost use Rattle.shr_script.specs.Spelling.{IsSpelling};
+ghost use Rattle.shr_script.specs.Faults.{Fault, IsFault};
 ghost use Rattle.shr_script.specs.Read.{Refuted};
 ghost use Rattle.shr_script.specs.Bounds.{ValidIsWithin};
 

@@ -2,7 +2,7 @@
 
 ghost use Rattle.std.specs.Prelude.{◌≡◌, ◌++◌, OnOk, IfSome, codes, true};
 ghost use Rattle.shr_model.specs.Pieces.{pieces};
-ghost use Rattle.shr_words.specs.Classes.{words_left};
+ghost use Rattle.shr_words.specs.WordReading.{words_left};
 ghost use Rattle.shr_script.specs.Said.{said_state};
 ghost use Rattle.shr_script.specs.Drafted.{DoesAsRead, Ends, drafted, completed, command_kept, kind_step, plain_step, line_step, part_step};
 ghost use Rattle.shr_script.specs.declared.kind.Kind.TheVariants.{Header, Size, Group, Cache, Pool, Worker, Work, Sweep as Sweeping, End};
@@ -289,7 +289,7 @@ fn plain_line<'a>(
 }
 
 /// A line, without its line feed.
-#[tactic(auto, unfolding(crate::specs::Drafted::line_step, shr_model::specs::Pieces::left))]
+#[tactic(auto, unfolding(crate::specs::Drafted::line_step, shr_model::specs::PieceParts::left))]
 fn line<'a>(
     alloc: Global,
     said: &mut Said<'a>,

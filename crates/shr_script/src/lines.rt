@@ -2,7 +2,8 @@
 
 ghost use Rattle.std.specs.Prelude.{◌≡◌, ◌≤◌, length, option_map};
 ghost use Rattle.std.specs.List.{prefix_len};
-ghost use Rattle.shr_model.specs.Pieces.{differs, left, next_part};
+ghost use Rattle.shr_model.specs.Pieces.{differs};
+ghost use Rattle.shr_model.specs.PieceParts.{left, next_part};
 
 use memchr::memchr;
 
@@ -19,7 +20,7 @@ fn line_len(bytes: &[u8]) -> usize
 }
 
 /// The next line, and what is left behind it: nothing, where no line feed ends the line. Our own.
-#[tactic(auto, unfolding(shr_model::specs::Pieces::left), using(shr_model::proofs::PiecesLaws::next_more, shr_model::proofs::PiecesLaws::next_last))]
+#[tactic(auto, unfolding(shr_model::specs::PieceParts::left), using(shr_model::proofs::PiecesLaws::next_more, shr_model::proofs::PiecesLaws::next_last))]
 pub fn next_line(rest: Option<&[u8]>) -> Option<(&[u8], Option<&[u8]>)>
     ensures { option_map (λ x. (x.0.now, left 10 (option_map (λ r. r.now) x.1))) result
         ≡ next_part (left 10 (option_map (λ r. r.now) rest.entry)) }

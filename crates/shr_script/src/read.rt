@@ -3,9 +3,10 @@
 ghost use Rattle.std.specs.Prelude.{◌≡◌, ◌<◌, ◌^◌, ℕ, length, option_map, IfOk, IfErr};
 ghost use Rattle.shr_base.specs.declared.scripts.Code.{Code};
 ghost use Rattle.shr_script.specs.declared.read.ReadError.TheVariants.{Memory as WantOfMemory};
-ghost use Rattle.shr_model.specs.Pieces.{left};
-ghost use Rattle.shr_script.specs.Content.{Content, content_of, lines_of, IsSpelling};
-ghost use Rattle.shr_script.specs.Script.{IsFault, is_last};
+ghost use Rattle.shr_model.specs.PieceParts.{left};
+ghost use Rattle.shr_script.specs.Content.{Content, content_of, lines_of};
+ghost use Rattle.shr_script.specs.Spelling.{IsSpelling};
+ghost use Rattle.shr_script.specs.Faults.{IsFault, is_last};
 ghost use Rattle.shr_script.specs.Read.{error_at, Runs, run_of, ReadsScript, IsCause, TellsFault};
 
 use crate::draft::Draft;
@@ -38,7 +39,7 @@ impl From<Memory> for ReadError {
 }
 
 // Whether no line feed ended the part before.
-#[tactic(auto, unfolding(shr_model::specs::Pieces::left, shr_model::specs::Pieces::pieces))]
+#[tactic(auto, unfolding(shr_model::specs::PieceParts::left, shr_model::specs::Pieces::pieces))]
 fn is_last(behind: Option<&[u8]>) -> bool
     ensures { result ≡ is_last (left 10 (option_map (λ r. r.now) behind.entry)) }
 {

@@ -2,7 +2,8 @@
 
 ghost use Rattle.std.specs.Prelude.{◌≡◌, ◌+◌, ◌≤◌, ◌<◌, nat_le, OnOk, None, length};
 ghost use Rattle.shr_base.specs.declared.scripts.Code.TheVariants.{TooMany};
-ghost use Rattle.shr_words.specs.Classes.{Gives, place_of, flag_place};
+ghost use Rattle.shr_words.specs.WordReading.{Gives};
+ghost use Rattle.shr_words.specs.Classes.{place_of, flag_place};
 ghost use Rattle.shr_script.specs.Lines.{refused_if, may_hold_group, most_groups, group_rule, cache_rule, pool_rule};
 ghost use Rattle.shr_script.specs.Said.{said_state};
 

@@ -2,7 +2,8 @@
 
 ghost use Rattle.std.specs.Prelude.{◌≡◌, ◌<◌, ◌≤◌, [], ◌∷◌, Ok, IfOk, true};
 ghost use Rattle.shr_model.specs.Paths.{is_path};
-ghost use Rattle.shr_words.specs.Classes.{Gives, words_left, items_said, N, L, W, policy_place, flag_place};
+ghost use Rattle.shr_words.specs.WordReading.{Gives, words_left, items_said};
+ghost use Rattle.shr_words.specs.Classes.{N, L, W, policy_place, flag_place};
 ghost use Rattle.shr_script.specs.Lines.{classes, verb_classes, key_classes, most_ids};
 ghost use Rattle.shr_script.specs.Said.{said_state};
 ghost use Rattle.shr_script.specs.declared.kind.Kind.TheVariants.{Header, Size, Group, Cache, Pool, Sweep};

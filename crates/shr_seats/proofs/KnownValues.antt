@@ -1,7 +1,8 @@
 -- Shapes that tables may be made in and shapes that they may not, and seats of a table, at known values.
 use Rattle.shr_seats.proofs.Common.{◌≡◌, ℕ, zero, suc, ◌<◌, ◌≤◌, true, false, List, [], ◌∷◌, refl, arith, ◌+◌, count_by, Standing, AreSeats, IsWhole, is_out, at_first, at_split, with_split, with_join, Some, None}
 use Rattle.shr_base.specs.Kept.{Kept}
-use Rattle.shr_model.specs.Groups.{IsTree, IsHierarchy, is_later, parent_of}
+use Rattle.shr_model.specs.Trees.{IsTree, IsHierarchy}
+use Rattle.shr_model.specs.Groups.{is_later, parent_of}
 use Rattle.shr_seats.specs.declared.shape.Shape.{Shape}
 use Rattle.shr_seats.specs.Shapes.{IsShape, HasLimits, hierarchy_of}
 use Rattle.shr_seats.proofs.Weighing.{Each-one}

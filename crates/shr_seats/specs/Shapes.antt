@@ -1,6 +1,7 @@
 -- The shape of a run's tables, and which shapes there may be.
 use Rattle.std.specs.Prelude.{◌≡◌, ◌<◌, ◌≤◌, ◌^◌, ℕ, length}
-use Rattle.shr_model.specs.Groups.{Hierarchy, IsTree, IsHierarchy}
+use Rattle.shr_model.specs.Groups.{Hierarchy}
+use Rattle.shr_model.specs.Trees.{IsTree, IsHierarchy}
 use Rattle.shr_seats.specs.declared.rows.Sizes.{Sizes}
 use Rattle.shr_seats.specs.declared.shape.Shape.{Shape}
 

@@ -1,6 +1,6 @@
 -- What an input is answered, by the script or the fault that was read.
 use Rattle.shr_tool.proofs.Common.{◌≡◌, ℕ, List, sym, subst, Option, Code, IsFault, SourceSeen, SinkSeen, RunGives, Status, Done, Usage, ReadFault, WriteFault, Refused, Memory, TooLong, Unlawful, refusal_text, refusal, AnswerGives, RefusalGives, TracedGives, TracedAnswer}
-use Rattle.shr_tool.specs.Reading.{ReadAll, script_limit}
+use Rattle.shr_tool.specs.Done.{ReadAll, script_limit}
 
 -- bytes that are spelled so are answered as their spelling
 pub answers_spelling : (bytes other : List ℕ) (sink : SinkSeen) (status : Status) → bytes ≡ other → AnswerGives other sink status → AnswerGives bytes sink status

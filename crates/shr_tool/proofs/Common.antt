@@ -13,12 +13,14 @@ pub use Rattle.shr_base.specs.declared.scripts.Command.{Command}
 pub use Rattle.shr_base.specs.declared.scripts.Command.TheVariants.{Balance, Offline, On, Put, Shrink, Unregister}
 pub use Rattle.shr_base.specs.declared.scripts.Script.{Script}
 pub use Rattle.shr_gen.specs.Generated.{MayBeGenerated, chosen_by, generated_command, commands_from, drawn_after, generated, group_at, worker_group, is_offline, key_text, node_by, priority_by, target_by, value_text}
-pub use Rattle.shr_model.specs.Pieces.{Parts, cut, differs, is_part_of}
-pub use Rattle.shr_report.specs.Parts.{answer_at, answers_in, answers_of, commands_in, commands_of, decls_on, id_found, journals_of, later_of, limit_of, parents_of}
+pub use Rattle.shr_model.specs.Pieces.{Parts, cut, differs}
+pub use Rattle.shr_model.specs.PieceParts.{is_part_of}
+pub use Rattle.shr_laws.specs.Parts.{answer_at, answers_in, answers_of, commands_in, commands_of, decls_on, id_found, journals_of, later_of, limit_of, parents_of}
 pub use Rattle.shr_script.specs.Content.{Content, IsValid, content_of, spell}
-pub use Rattle.shr_script.specs.Script.{IsFault}
+pub use Rattle.shr_script.specs.Faults.{IsFault}
 pub use Rattle.shr_tool.specs.Audit.{AreOtherLines, AuditGives, HasEndLine, HasNoEnd, HasVerdict, IsBad, IsJudged, IsJudging, IsOtherLine, IsSplit, IsVerdictOf, IsInputWhole, JudgeGives, status_of, with_feeds}
-pub use Rattle.shr_tool.specs.Top.{AnswerGives, IsComplete, IsRefusing, RefusalGives, RunGives, SinkSeen, SourceSeen, refusal, refusal_text}
+pub use Rattle.shr_tool.specs.Top.{AnswerGives, IsComplete, IsRefusing, RefusalGives, RunGives, refusal, refusal_text}
+pub use Rattle.shr_tool.specs.Done.{SinkSeen, SourceSeen}
 pub use Rattle.shr_tool.specs.Traced.{TracedAnswer, TracedGives}
 pub use Rattle.shr_tool.specs.declared.status.Status.{Status}
 pub use Rattle.shr_tool.specs.declared.status.Status.TheVariants.{Done, Memory, ReadFault, Refused, TooLong, Unlawful, Usage, WriteFault}

@@ -10,14 +10,15 @@ use Rattle.shr_base.specs.declared.replies.Reply.{Reply}
 use Rattle.shr_base.specs.declared.replies.Reply.TheVariants as reply
 use Rattle.shr_base.specs.declared.scripts.CacheDecl.{CacheDecl}
 use Rattle.shr_model.proofs.Members.{Has, Contains_from_Has}
-use Rattle.shr_report.specs.declared.report.Report.{Report}
-use Rattle.shr_report.specs.Causes.{IsMadeBy}
-use Rattle.shr_report.specs.Faithful.{IsFaithful}
-use Rattle.shr_report.specs.Lawful.{IsLawful}
-use Rattle.shr_report.specs.Puts.{IsOnlyPut, StaysOn, StaysOnline, IsFreePut, IsAddedOrSpent, AreFreePutsAdded, IsEachAdded, DoPutsAddUp}
-use Rattle.shr_report.specs.WellFormed.{IsWellFormed}
-use Rattle.shr_report.specs.ReplyTable.{IsReply}
-use Rattle.shr_report.proofs.QuietSweep.{own_counts}
+use Rattle.shr_laws.specs.declared.report.Report.{Report}
+use Rattle.shr_laws.specs.Causes.{IsMadeBy}
+use Rattle.shr_laws.specs.Faithful.{IsFaithful}
+use Rattle.shr_laws.specs.Lawful.{IsLawful}
+use Rattle.shr_laws.specs.Puts.{IsOnlyPut, StaysOn, StaysOnline, IsFreePut, IsAddedOrSpent, AreFreePutsAdded}
+use Rattle.shr_laws.specs.PutSums.{IsEachAdded, DoPutsAddUp}
+use Rattle.shr_laws.specs.WellFormed.{IsWellFormed}
+use Rattle.shr_laws.specs.ReplyTable.{IsReply}
+use Rattle.shr_laws.proofs.QuietSweep.{own_counts}
 use Rattle.shr_gen.proofs.Reading.{few_commands}
 use Rattle.shr_run.specs.Made.{IsReportOfRun}
 use Rattle.shr_tool.specs.Summary.{replies_of, five_lines, IsUnhindered, HadEnough, IsSummary}

@@ -2,15 +2,16 @@
 use Rattle.std.specs.Prelude.{◌≡◌, ◌≢◌, ◌⊎◌, ℕ, ◌≤◌, true, List, ◌++◌, codes, decimal, length, flat_map, Some}
 use Rattle.std.specs.List.{AllByRecursion}
 use Rattle.std.specs.Io.KnownBytes.{Appends}
-use Rattle.shr_model.specs.Pieces.{is_part_of}
+use Rattle.shr_model.specs.PieceParts.{is_part_of}
 use Rattle.shr_outside.specs.Outside.{Rose}
 use Rattle.shr_outside.specs.Writing.{WrotePart}
 use Rattle.shr_audit.specs.declared.verdict.Law.{Law}
 use Rattle.shr_audit.specs.declared.verdict.Verdict.{Verdict}
 use Rattle.shr_audit.specs.declared.verdict.Verdict.TheVariants.{Lawful, BadScript, BadReport, Unlawful}
 use Rattle.shr_audit.specs.Verdict.{law_number, HoldsOf}
-use Rattle.shr_tool.specs.Reading.{ReadAll, TookFew, TookTooMany, IsReadFault, audit_limit}
-use Rattle.shr_tool.specs.Top.{SourceSeen, SinkSeen, NoneFailed, WritesNothing, refusal}
+use Rattle.shr_tool.specs.Done.{ReadAll, SourceSeen, SinkSeen}
+use Rattle.shr_tool.specs.Reading.{TookFew, TookTooMany, IsReadFault, audit_limit}
+use Rattle.shr_tool.specs.Top.{NoneFailed, WritesNothing, refusal}
 use Rattle.shr_tool.specs.declared.status.Status.{Status}
 use Rattle.shr_tool.specs.declared.status.Status.TheVariants as status
 

@@ -1,5 +1,6 @@
 pub mod Reading
 pub mod Top
+pub mod Done
 pub mod Traced
 pub mod Audit
 pub mod Turns

@@ -1,23 +1,14 @@
 -- Reading a source to its end.
 use Rattle.std.specs.Prelude.{ℕ, ◌<◌, ◌≤◌, List, length, Option}
-use Rattle.std.specs.Io.KnownBytes.{Consumes, IsAtEnd}
+use Rattle.std.specs.Io.KnownBytes.{Consumes}
 use Rattle.shr_outside.specs.Outside.{Rose}
 use Rattle.shr_tool.specs.declared.reading.Input.{Input}
 use Rattle.shr_tool.specs.declared.reading.Input.TheVariants.{All, Failed, TooLong, Memory}
-
--- the most bytes of a script
-abbrev pub script_limit : ℕ
-script_limit = 4194304
+use Rattle.shr_tool.specs.Done.{ReadAll}
 
 -- the most bytes of a script with a report behind it
 abbrev pub audit_limit : ℕ
 audit_limit = 67108864
-
--- these bytes were taken, they are within the limit, and then the source was at its end
-pub record ReadAll (limit : ℕ) (left left_after : Option (List ℕ)) (bytes : List ℕ) : Type 0 where
-  pub taken : Consumes left left_after bytes
-  pub end : IsAtEnd left_after
-  pub within : length bytes ≤ limit
 
 -- the bytes that were taken are within the limit
 pub record TookFew (limit : ℕ) (left left_after : Option (List ℕ)) : Type 0 where

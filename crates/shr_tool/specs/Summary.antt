@@ -9,13 +9,14 @@ use Rattle.shr_base.specs.declared.replies.Reply.TheVariants.{Memory, Worn}
 use Rattle.shr_base.specs.declared.scripts.Script.{Script}
 use Rattle.shr_script.specs.Content.{content_of}
 use Rattle.shr_gen.specs.Generated.{generated}
-use Rattle.shr_report.specs.declared.report.Report.{Report}
-use Rattle.shr_report.specs.Faithful.{IsFaithful}
-use Rattle.shr_report.specs.Lawful.{IsLawful}
-use Rattle.shr_report.specs.Parts.{answers_of, puts_of}
-use Rattle.shr_report.specs.WellFormed.{IsWellFormed}
+use Rattle.shr_laws.specs.declared.report.Report.{Report}
+use Rattle.shr_laws.specs.Faithful.{IsFaithful}
+use Rattle.shr_laws.specs.Lawful.{IsLawful}
+use Rattle.shr_laws.specs.Parts.{answers_of, puts_of}
+use Rattle.shr_laws.specs.WellFormed.{IsWellFormed}
 use Rattle.shr_run.specs.Made.{IsReportOfRun}
-use Rattle.shr_tool.specs.Top.{SourceSeen, SinkSeen, ReadsNothing, WritesNothing}
+use Rattle.shr_tool.specs.Done.{SourceSeen, SinkSeen}
+use Rattle.shr_tool.specs.Top.{ReadsNothing, WritesNothing}
 use Rattle.shr_outside.specs.Writing.{WrotePart}
 use Rattle.shr_tool.specs.declared.status.Status.{Status}
 use Rattle.shr_tool.specs.declared.status.Status.TheVariants as status

@@ -6,36 +6,21 @@ use Rattle.shr_base.specs.declared.scripts.Script.{Script}
 use Rattle.shr_base.specs.declared.scripts.Code.{Code}
 use Rattle.shr_base.specs.declared.scripts.Code.TheVariants.{BadHeader, UnknownWord, BadNumber, BadText, BadPath, NoParent, Exists, UnknownGroup, UnknownCache, NoWorker, TooMany, Missing, Trailing, NoEnd}
 use Rattle.shr_script.specs.Content.{Content, content_of, IsValid, spell}
-use Rattle.shr_script.specs.Script.{IsFault}
-use Rattle.shr_report.specs.declared.report.Report.{Report}
-use Rattle.shr_report.specs.Text.{text}
-use Rattle.shr_report.specs.Faithful.{IsFaithful}
-use Rattle.shr_report.specs.Lawful.{IsLawful}
-use Rattle.shr_report.specs.Numbers.{HasNumbers}
-use Rattle.shr_report.specs.Puts.{AreFreePutsAdded}
-use Rattle.shr_report.specs.WellFormed.{IsWellFormed}
-use Rattle.shr_tool.specs.Reading.{ReadAll, TookFew, TookTooMany, IsReadFault, script_limit}
+use Rattle.shr_script.specs.Faults.{IsFault}
+use Rattle.shr_laws.specs.declared.report.Report.{Report}
+use Rattle.shr_laws.specs.Text.{text}
+use Rattle.shr_laws.specs.Lawful.{IsLawful}
+use Rattle.shr_laws.specs.Numbers.{HasNumbers}
+use Rattle.shr_laws.specs.WellFormed.{IsWellFormed}
+use Rattle.shr_tool.specs.Done.{ReadAll, script_limit, SourceSeen, SinkSeen, IsDone}
+use Rattle.shr_tool.specs.Reading.{TookFew, TookTooMany, IsReadFault}
 use Rattle.shr_outside.specs.Writing.{WrotePart}
 use Rattle.shr_tool.specs.declared.status.Status.{Status}
 use Rattle.shr_tool.specs.declared.status.Status.TheVariants.{Done, Usage, ReadFault, WriteFault, Refused, Memory, TooLong, Unlawful}
 
--- what a source tells and counts, before and after
-pub record SourceSeen : Type 0 where
-  pub left : Option (List ℕ)
-  pub left_after : Option (List ℕ)
-  pub faults : ℕ
-  pub faults_after : ℕ
-
 -- of a source before and after, by what it tells to be left and how it counts its faults
 abbrev pub source_seen : {S : Type 0} → (S → Option (List ℕ)) → (S → ℕ) → S → S → SourceSeen
 source_seen left faults old new = record { left = left old; left_after = left new; faults = faults old; faults_after = faults new }
-
--- what a sink tells and counts, before and after
-pub record SinkSeen : Type 0 where
-  pub written : Option (List ℕ)
-  pub written_after : Option (List ℕ)
-  pub faults : ℕ
-  pub faults_after : ℕ
 
 -- of a sink before and after, by what it tells to be written and how it counts its faults
 abbrev pub sink_seen : {K : Type 0} → (K → Option (List ℕ)) → (K → ℕ) → K → K → SinkSeen
@@ -67,21 +52,6 @@ refusal line code = codes "refused " ++ decimal line ++ codes " " ++ code_name c
 pub data IsTextOf : List ℕ → List ℕ → Type 0 where
   report_text : (s : Script) (r : Report) → IsValid (content_of s) → IsLawful s r → IsWellFormed r → HasNumbers r → IsTextOf (spell (content_of s)) (text r)
   refusal_text : (bytes : List ℕ) (line : ℕ) (code : Code) → IsFault bytes line code → IsTextOf bytes (refusal line code)
-
--- The source was read to its end, it gave the spelling of a valid script, and a lawful, faithful
--- and well formed report was written, whose numbers have the ranges of their types. Each put that nothing was
--- in the way of was added, unless there was no memory or a counter was used up.
-pub record IsDone (source : SourceSeen) (sink : SinkSeen) : Type 0 where
-  pub script : Script
-  pub report : Report
-  pub valid : IsValid (content_of script)
-  pub read : ReadAll script_limit source.left source.left_after (spell (content_of script))
-  pub lawful : IsLawful script report
-  pub faithful : IsFaithful script report
-  pub well_formed : IsWellFormed report
-  pub numbers : HasNumbers report
-  pub puts : AreFreePutsAdded script report
-  pub written : Appends sink.written sink.written_after (text report)
 
 -- the source was read to its end, its bytes are refused at this line, and the refusal was written
 pub record IsRefused (source : SourceSeen) (sink : SinkSeen) : Type 0 where

@@ -1,8 +1,7 @@
 -- Where the report of a run comes from: the tables that were opened for its script.
 use Rattle.std.specs.Prelude.{ℕ, List}
 use Rattle.shr_run.specs.Made.{IsReportOfRun}
-use Rattle.shr_tool.specs.Reading.{ReadAll, script_limit}
-use Rattle.shr_tool.specs.Top.{SourceSeen, SinkSeen, IsDone}
+use Rattle.shr_tool.specs.Done.{ReadAll, script_limit, SourceSeen, SinkSeen, IsDone}
 use Rattle.shr_tool.specs.declared.status.Status.{Status}
 use Rattle.shr_tool.specs.declared.status.Status.TheVariants.{Done}
 

@@ -1,7 +1,8 @@
 -- How often the source gives bytes in a call, by its words.
 use Rattle.std.specs.Prelude.{◌≡◌, ℕ, ◌+◌, ◌≤◌, List}
 use Rattle.shr_gen.specs.Forms.{AreRunWords, AreAuditWords, AreGenWords, AreNoForm}
-use Rattle.shr_tool.specs.Reading.{script_limit, audit_limit}
+use Rattle.shr_tool.specs.Done.{script_limit}
+use Rattle.shr_tool.specs.Reading.{audit_limit}
 
 -- one time more than it may have bytes at most, and not at all where nothing is read
 pub record TurnsGive (words : List (List ℕ)) (turns turns_after : ℕ) : Type 0 where

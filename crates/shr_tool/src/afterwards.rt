@@ -1,6 +1,6 @@
 //! What becomes of the memory of a report that was written.
 
-use shr_report::report::Report;
+use shr_laws::report::Report;
 use std::mem::forget;
 
 /// What becomes of the memory of a run's report once all of its text was written. Our own.

@@ -3,7 +3,8 @@ use Rattle.std.specs.Prelude.{◌≡◌, ◌≢◌, ◌↔◌, ◌<◌, ◌≤�
 use Rattle.std.specs.Option.{is_some}
 use Rattle.std.specs.List.{range_with_len}
 use Rattle.shr_model.specs.Paths.{root_path, is_path, parent_path}
-use Rattle.shr_model.specs.Groups.{Hierarchy, IsTree, IsHierarchy, IsAtOrAbove, is_later, parent_of, children_of}
+use Rattle.shr_model.specs.Groups.{Hierarchy, IsAtOrAbove, is_later, parent_of, children_of}
+use Rattle.shr_model.specs.Trees.{IsTree, IsHierarchy}
 use Rattle.shr_words.specs.Classes.{Word, place_of}
 use Rattle.shr_tree.specs.declared.tree.Group.{Group}
 use Rattle.shr_tree.specs.declared.errors.TreeError.{TreeError}

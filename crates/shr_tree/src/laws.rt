@@ -1,7 +1,8 @@
 //! Laws of the tree of groups, as the clauses of functions that do nothing.
 
 ghost use Rattle.std.specs.Prelude.{◌≡◌, ◌<◌, ◌≤◌, ℕ, List, [], ◌∷◌, length};
-ghost use Rattle.shr_model.specs.Groups.{IsTree, IsAtOrAbove, parent_of, path_of};
+ghost use Rattle.shr_model.specs.Trees.{IsTree};
+ghost use Rattle.shr_model.specs.Groups.{IsAtOrAbove, parent_of, path_of};
 
 /// At or above is a partial order, in which the root is above all.
 ///

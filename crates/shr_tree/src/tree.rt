@@ -1,7 +1,8 @@
 //! The tree of groups.
 
 ghost use Rattle.std.specs.Prelude.{◌≡◌, ◌<◌, ◌≤◌, ◌++◌, true, false, Some, None, slice_get, length, unwrap_or, IfOk, IfSome, OnErr, OnOk};
-ghost use Rattle.shr_model.specs.Groups.{IsTree, IsHierarchy, is_later, parent_of, depth_of, preorder_of};
+ghost use Rattle.shr_model.specs.Trees.{IsTree, IsHierarchy, depth_of};
+ghost use Rattle.shr_model.specs.Groups.{is_later, parent_of, preorder_of};
 ghost use Rattle.shr_model.specs.Paths.{parent_path};
 ghost use Rattle.shr_words.specs.Classes.{place_of};
 ghost use Rattle.shr_tree.specs.Tree.{root_alone, hierarchy_in, with_group, may_hold, is_parent, refusal_of, Refuses, IsSubtree};

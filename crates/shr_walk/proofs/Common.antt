@@ -47,10 +47,11 @@ pub use Rattle.shr_deferred.specs.Moves.{Moves, both, no_moves}
 pub use Rattle.shr_list.specs.Answers.{scan_entry}
 pub use Rattle.shr_model.specs.Attempts.{is_clearing, is_held, number_of, pass_of}
 pub use Rattle.shr_model.specs.Bits.{is_set, units_of}
-pub use Rattle.shr_model.specs.Groups.{IsHierarchy, IsTree, depth_of, path_of, preorder_of}
+pub use Rattle.shr_model.specs.Trees.{IsHierarchy, IsTree, depth_of}
+pub use Rattle.shr_model.specs.Groups.{path_of, preorder_of}
 pub use Rattle.shr_model.specs.Pass.{FollowsArithmetic, MadeOf, batch_of, due, total_of}
 pub use Rattle.shr_model.specs.Paths.{parent_path, root_path}
-pub use Rattle.shr_model.specs.Places.{place_number}
+pub use Rattle.shr_model.specs.PlaceNumbers.{place_number}
 pub use Rattle.shr_model.specs.Prefixes.{IsPrefixOf}
 pub use Rattle.shr_node.specs.Gains.{Gains, Knows, KnowsClosed}
 pub use Rattle.shr_pass.specs.Answers.{CountFits, FreesAtMost, scans_with}

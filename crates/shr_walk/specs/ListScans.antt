@@ -7,8 +7,8 @@ use Rattle.shr_base.specs.declared.objects.Policy.{Policy}
 use Rattle.shr_base.specs.declared.replies.Spent.{Spent}
 use Rattle.shr_base.specs.declared.replies.Spent.TheVariants as spent
 use Rattle.shr_list.specs.Answers.{scan_entry}
-use Rattle.shr_model.specs.Groups.{depth_of}
-use Rattle.shr_model.specs.Places.{place_number}
+use Rattle.shr_model.specs.Trees.{depth_of}
+use Rattle.shr_model.specs.PlaceNumbers.{place_number}
 use Rattle.shr_seats.specs.Weights.{times}
 use Rattle.shr_core.specs.Seats.{view_of, shape_of, IsPlaceOfShape}
 use Rattle.shr_charge.specs.Seat.{uses_of, spent_by}

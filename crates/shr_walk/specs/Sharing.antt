@@ -1,9 +1,9 @@
 -- What the workers share belongs together.
 use Rattle.std.specs.Prelude.{◌≡◌, ℕ, ◌^◌, ◌<◌, ◌≤◌, false, true, List, [], ◌∷◌, map, length, None}
-use Rattle.shr_base.specs.Kept.{kept}
+use Rattle.shr_base.specs.KeptLists.{kept}
 use Rattle.shr_base.specs.declared.scripts.GroupDecl.{GroupDecl}
 use Rattle.shr_base.specs.declared.scripts.Script.{Script}
-use Rattle.shr_model.specs.Groups.{depth_of}
+use Rattle.shr_model.specs.Trees.{depth_of}
 use Rattle.shr_model.specs.Paths.{root_path}
 use Rattle.shr_script.specs.Content.{content_of, IsValid}
 use Rattle.shr_tree.specs.Tree.{Groups}

@@ -1,7 +1,7 @@
 //! A worker as one value.
 
 ghost use Rattle.std.specs.Prelude.{◌≡◌, ◌<◌, ◌≤◌, ◌*◌, ◌^◌, IfOk, OnOk, length};
-ghost use Rattle.shr_base.specs.Kept.{kept};
+ghost use Rattle.shr_base.specs.KeptLists.{kept};
 ghost use Rattle.shr_charge.specs.Steps.{with_load};
 ghost use Rattle.shr_charge.specs.Told.{Shows};
 ghost use Rattle.shr_charge.specs.Seat.{spent_by};

@@ -4,7 +4,7 @@ use Rattle.std.specs.Prelude.{filter_map, Some}
 use Rattle.shr_base.specs.declared.places.Place.{Place}
 use Rattle.shr_base.specs.declared.objects.Policy.TheVariants.{Plain}
 use Rattle.shr_base.specs.declared.places.Serial.{Serial}
-use Rattle.shr_model.specs.Places.{place_number}
+use Rattle.shr_model.specs.PlaceNumbers.{place_number}
 use Rattle.shr_core.specs.declared.table.Core.{Core}
 use Rattle.shr_charge.specs.declared.table.Charge.{Charge}
 use Rattle.shr_core.specs.Gained.{OwesNoMore}

@@ -1,7 +1,7 @@
 //! A shrinker whose list gets an object behind its first count, and whose scans find no memory.
 
 ghost use Rattle.std.specs.Prelude.{◌≡◌, ◌<◌, ◌≤◌, [], Some};
-ghost use Rattle.shr_model.specs.Places.{place_number};
+ghost use Rattle.shr_model.specs.PlaceNumbers.{place_number};
 ghost use Rattle.shr_seats.specs.Weights.{times};
 ghost use Rattle.shr_core.specs.Seats.{IsPlaceOfShape, view_of, shape_of};
 ghost use Rattle.shr_pass.specs.Answers.{CountFits, IfEmpty};

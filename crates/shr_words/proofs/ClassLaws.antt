@@ -6,7 +6,8 @@ use Rattle.std.proofs.lemmas.Fmt.{decimal-digits_value, digits_decimal, digits_v
 use Rattle.shr_base.specs.declared.scripts.Code.TheVariants as codes_of
 use Rattle.shr_model.specs.Pieces.{cut, pieces, joined}
 use Rattle.shr_model.specs.Paths.{is_path}
-use Rattle.shr_words.specs.Classes.{passes, test_code, Choice, Policies, Kinds, Starts, Walks, PoolKinds, choice_words, Class, Limit, Chosen, L, is_numeral, number_spelled, limit_spelled, place_of, text_of, value_of, listed_of, marked_of, chosen_of, item_of, item_at, taken, ended, items_said, limit_word, word_of, IsOfClass, words_of, AreOf, as_of, shape, policy_place, policy_at, flag_place}
+use Rattle.shr_words.specs.Classes.{passes, Choice, Policies, Kinds, Starts, Walks, PoolKinds, choice_words, Class, Limit, Chosen, L, place_of, limit_word, word_of, IsOfClass, words_of, AreOf, policy_place, flag_place}
+use Rattle.shr_words.specs.WordReading.{test_code, is_numeral, number_spelled, limit_spelled, text_of, value_of, listed_of, marked_of, chosen_of, item_of, item_at, taken, ended, items_said, as_of, shape, policy_at}
 use Rattle.shr_base.specs.declared.objects.Policy.{Policy}
 use Rattle.shr_base.specs.declared.objects.Policy.TheVariants as policies
 use Rattle.shr_model.proofs.Booleans.{and_right, below_of, le_of, lt_of}

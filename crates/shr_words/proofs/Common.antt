@@ -10,8 +10,10 @@ pub use Rattle.shr_base.specs.declared.scripts.Code.{Code}
 pub use Rattle.shr_base.specs.declared.scripts.Code.TheVariants.{BadText, UnknownCache, UnknownGroup}
 pub use Rattle.shr_model.proofs.PiecesLaws.{and_true, cut_first, cut_part, joined_cut, same_byte}
 pub use Rattle.shr_model.specs.Paths.{all_parts}
-pub use Rattle.shr_model.specs.Pieces.{differs, is_part_of, left, pieces}
+pub use Rattle.shr_model.specs.Pieces.{differs, pieces}
+pub use Rattle.shr_model.specs.PieceParts.{is_part_of, left}
 pub use Rattle.shr_model.specs.Words.{is_between, is_name_byte, is_part, is_value, is_visible}
-pub use Rattle.shr_words.specs.Classes.{Item, KeyTest, Listed, Marked, N, NameTest, Number, PathTest, Plain, Test, Valued, W, Word, found_or, is_digit, number_said, place_of, ◌>>=◌}
+pub use Rattle.shr_words.specs.Classes.{Item, KeyTest, Listed, Marked, N, NameTest, Number, PathTest, Plain, Test, Valued, W, Word, number_said, place_of, ◌>>=◌}
+pub use Rattle.shr_words.specs.WordReading.{found_or, is_digit}
 pub use Rattle.shr_words.specs.Runs.{AllPassBetween, IsDigit, cut_at, taken_of}
 pub use lib.Lanes.{chunk}

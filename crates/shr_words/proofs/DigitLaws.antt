@@ -3,7 +3,7 @@ use Rattle.shr_words.proofs.Common.{◌≡◌, ℕ, zero, suc, ◌+◌, ◌-◌,
 use Rattle.std.specs.Char.{digit_value}
 use Rattle.std.proofs.lemmas.Int.Digits.{digits_value_more}
 use Rattle.shr_model.specs.Pieces.{cut, pieces}
-use Rattle.shr_words.specs.Classes.{is_numeral, number_spelled, taken, item_at}
+use Rattle.shr_words.specs.WordReading.{is_numeral, number_spelled, taken, item_at}
 
 within : (b : ℕ) → is_digit b ≡ true → (48 ≤ b) × (b ≤ 57)
 within b e = grind (arith, nat_tests)

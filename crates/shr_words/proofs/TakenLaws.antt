@@ -1,7 +1,8 @@
 -- A word that is cut behind its bytes of a class is the next word of a line.
 use Rattle.shr_words.proofs.Common.{◌≡◌, ℕ, suc, ◌+◌, Bool, true, false, cond, List, [], ◌∷◌, length, Some, Result, Ok, Err, refl, sym, ap, ◌∙◌, arith, ◌==◌, prefix_len, list_all, nat_tests, Code, BadText, same_byte, Word, taken_of, cut_at, slice_index}
-use Rattle.shr_model.specs.Pieces.{Parts, onto, cut, pieces, left}
-use Rattle.shr_words.specs.Classes.{taken}
+use Rattle.shr_model.specs.Pieces.{Parts, onto, cut, pieces}
+use Rattle.shr_model.specs.PieceParts.{left}
+use Rattle.shr_words.specs.WordReading.{taken}
 use Rattle.shr_model.proofs.Booleans.{not_zero}
 
 abbrev pub Found : Type 0

@@ -5,7 +5,8 @@ use Rattle.std.specs.List.{list_all}
 use Rattle.shr_base.specs.declared.scripts.Code.{Code}
 use Rattle.shr_base.specs.declared.scripts.Code.TheVariants.{BadText}
 use Rattle.shr_model.specs.Pieces.{pieces}
-use Rattle.shr_words.specs.Classes.{◌>>=◌, Word, taken}
+use Rattle.shr_words.specs.Classes.{◌>>=◌, Word}
+use Rattle.shr_words.specs.WordReading.{taken}
 
 -- the bytes from at up to end pass the test
 abbrev pub AllPassBetween : (ℕ → Bool) → List ℕ → ℕ → ℕ → Type 0

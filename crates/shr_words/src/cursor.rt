@@ -2,7 +2,8 @@
 
 ghost use Rattle.std.specs.Prelude.{◌≡◌, ◌≤◌, length, option_map};
 ghost use Rattle.std.specs.List.{prefix_len};
-ghost use Rattle.shr_model.specs.Pieces.{differs, left, next_part};
+ghost use Rattle.shr_model.specs.Pieces.{differs};
+ghost use Rattle.shr_model.specs.PieceParts.{left, next_part};
 
 use crate::runs::word_len;
 
@@ -17,7 +18,7 @@ fn part_len(bytes: &[u8], separator: u8) -> usize
     bytes.iter().take_while(|b| **b != separator).count()
 }
 
-#[tactic(auto, unfolding(shr_model::specs::Pieces::left), using(shr_model::proofs::PiecesLaws::next_more, shr_model::proofs::PiecesLaws::next_last))]
+#[tactic(auto, unfolding(shr_model::specs::PieceParts::left), using(shr_model::proofs::PiecesLaws::next_more, shr_model::proofs::PiecesLaws::next_last))]
 /// The next part, and what is left behind it: nothing, where no separator ends the part. Our own.
 #[inline]
 pub fn next(rest: Option<&[u8]>, separator: u8) -> Option<(&[u8], Option<&[u8]>)>

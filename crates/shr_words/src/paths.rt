@@ -9,7 +9,7 @@ use crate::bytes::is_name_word;
 use crate::cursor::next;
 
 // Whether each part between slashes is one of a path.
-#[tactic(auto, unfolding(shr_model::specs::Pieces::left))]
+#[tactic(auto, unfolding(shr_model::specs::PieceParts::left))]
 fn all_parts(bytes: &[u8]) -> bool
     ensures { result ≡ all_parts (pieces 47 bytes.now) }
 {

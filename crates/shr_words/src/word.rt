@@ -3,7 +3,8 @@
 ghost use Rattle.std.specs.Prelude.{◌≡◌, true, false, ◌+◌, ◌≤◌, ◌<◌, length, slice_index_or, min, IfOk, IfSome, if◌then◌else◌};
 ghost use Rattle.std.specs.List.{list_all};
 ghost use Rattle.std.specs.Str.Parse.{digits_value};
-ghost use Rattle.shr_words.specs.Classes.{Gives, taken, ended, words_left, item_at, N, L, W, Number, Limit, is_digit, is_numeral, number_spelled, Plain, PathTest, NameTest, KeyTest, Valued, Chosen, Policies, Kinds, Starts, Walks, PoolKinds, policy_place, flag_place, Listed, Marked};
+ghost use Rattle.shr_words.specs.WordReading.{Gives, taken, ended, words_left, item_at, is_digit, is_numeral, number_spelled};
+ghost use Rattle.shr_words.specs.Classes.{N, L, W, Number, Limit, Plain, PathTest, NameTest, KeyTest, Valued, Chosen, Policies, Kinds, Starts, Walks, PoolKinds, policy_place, flag_place, Listed, Marked};
 ghost use Rattle.shr_words.specs.Runs.{taken_of, cut_at, IsDigit};
 ghost use Rattle.shr_model.specs.Paths.{is_path};
 ghost use Rattle.shr_model.specs.Pieces.{pieces};
@@ -20,7 +21,7 @@ use shr_base::objects::Policy;
 use shr_base::scripts::Code;
 
 /// The next word, and what is left of the line behind it. Our own.
-#[tactic(auto, unfolding(crate::specs::Classes::taken))]
+#[tactic(auto, unfolding(crate::specs::WordReading::taken))]
 pub fn word(rest: Option<&[u8]>) -> Result<(&[u8], Option<&[u8]>), Code>
     ensures { Gives (λ x. (x.0.now, words_left x.1)) result (taken (words_left rest.entry)) }
 {
@@ -31,7 +32,7 @@ pub fn word(rest: Option<&[u8]>) -> Result<(&[u8], Option<&[u8]>), Code>
 }
 
 // The word of n bytes, where the line ends or a space stands behind it.
-#[tactic(auto, unfolding(shr_model::specs::Pieces::left), using(std::proofs::lemmas::List::take_rest))]
+#[tactic(auto, unfolding(shr_model::specs::PieceParts::left), using(std::proofs::lemmas::List::take_rest))]
 #[inline(always)]
 fn cut_at(bytes: &[u8], n: usize) -> Result<(&[u8], Option<&[u8]>), Code>
     requires { n ≤ length bytes.now }
@@ -71,7 +72,7 @@ fn name_word(rest: Option<&[u8]>) -> Result<(&[u8], Option<&[u8]>), Code>
 }
 
 /// A line ends behind its last word. Our own.
-#[tactic(auto, unfolding(crate::specs::Classes::ended))]
+#[tactic(auto, unfolding(crate::specs::WordReading::ended))]
 pub fn end(rest: Option<&[u8]>) -> Result<(), Code>
     ensures { Gives (λ x. x) result (ended (words_left rest.entry)) }
 {
@@ -87,7 +88,7 @@ fn all_digits(word: &[u8]) -> bool
     word.iter().all(|c| 48 <= *c && *c <= 57)
 }
 
-#[tactic(auto, unfolding(crate::specs::Classes::is_numeral))]
+#[tactic(auto, unfolding(crate::specs::WordReading::is_numeral))]
 fn is_numeral(word: &[u8]) -> bool
     ensures { result ≡ is_numeral word.now }
 {
@@ -106,7 +107,7 @@ fn value(word: &[u8]) -> u32
     n
 }
 
-#[tactic(auto, unfolding(crate::specs::Classes::number_spelled), using(crate::proofs::DigitLaws::numeral_digits))]
+#[tactic(auto, unfolding(crate::specs::WordReading::number_spelled), using(crate::proofs::DigitLaws::numeral_digits))]
 fn number_in(word: &[u8], low: u32, high: u32) -> Result<u32, Code>
     ensures reads { Gives (λ n. n) result (number_spelled low high word.now) }
     ensures within { IfOk result (λ n. n < high) }
@@ -133,7 +134,7 @@ fn digit(bytes: &[u8]) -> Option<(u32, &[u8])>
 }
 
 /// A number from low to below high. Our own.
-#[tactic(auto, unfolding(crate::specs::Classes::item_at))]
+#[tactic(auto, unfolding(crate::specs::WordReading::item_at))]
 #[inline(always)]
 pub fn number(rest: Option<&[u8]>, low: u32, high: u32) -> Result<(u32, Option<&[u8]>), Code>
     ensures reads { Gives (λ x. (N x.0, words_left x.1)) result (item_at (Number low high)
@@ -153,7 +154,7 @@ pub fn number(rest: Option<&[u8]>, low: u32, high: u32) -> Result<(u32, Option<&
 }
 
 /// `max`, or a number to a million. Our own.
-#[tactic(auto, unfolding(crate::specs::Classes::item_at, crate::specs::Classes::limit_spelled))]
+#[tactic(auto, unfolding(crate::specs::WordReading::item_at, crate::specs::WordReading::limit_spelled))]
 pub fn limit(rest: Option<&[u8]>) -> Result<(Option<u32>, Option<&[u8]>), Code>
     ensures { Gives (λ x. (L x.0, words_left x.1)) result (item_at Limit (words_left rest.entry)) }
 {
@@ -166,7 +167,7 @@ pub fn limit(rest: Option<&[u8]>) -> Result<(Option<u32>, Option<&[u8]>), Code>
 }
 
 /// A path. Our own.
-#[tactic(auto, unfolding(crate::specs::Classes::item_at, crate::specs::Classes::text_of, crate::specs::Classes::passes))]
+#[tactic(auto, unfolding(crate::specs::WordReading::item_at, crate::specs::WordReading::text_of, crate::specs::Classes::passes))]
 pub fn path(rest: Option<&[u8]>) -> Result<(&[u8], Option<&[u8]>), Code>
     ensures reads { Gives (λ x. (W x.0.now, words_left x.1)) result (item_at (Plain PathTest)
         (words_left rest.entry)) }
@@ -241,7 +242,7 @@ fn no_group(word: &[u8]) -> Code
 }
 
 /// The number of a group that was declared. Our own.
-#[tactic(auto, unfolding(crate::specs::Classes::item_at, crate::specs::Classes::listed_of, crate::specs::Classes::passes))]
+#[tactic(auto, unfolding(crate::specs::WordReading::item_at, crate::specs::WordReading::listed_of, crate::specs::Classes::passes))]
 #[inline(always)]
 pub fn group<'a>(rest: Option<&'a [u8]>, groups: &Paths) -> Result<(u16, Option<&'a [u8]>), Code>
     ensures reads { Gives (λ x. (N x.0, words_left x.1)) result
@@ -304,7 +305,7 @@ pub fn marked_group<'a>(
 }
 
 /// `any`, or `fs`. Our own.
-#[tactic(auto, unfolding(crate::specs::Classes::item_at, crate::specs::Classes::chosen_of, crate::specs::Classes::place_of))]
+#[tactic(auto, unfolding(crate::specs::WordReading::item_at, crate::specs::WordReading::chosen_of, crate::specs::Classes::place_of))]
 pub fn cache_kind(rest: Option<&[u8]>) -> Result<(bool, Option<&[u8]>), Code>
     ensures { Gives (λ x. (N (flag_place x.0), words_left x.1)) result (item_at (Chosen Kinds)
         (words_left rest.entry)) }
@@ -320,7 +321,7 @@ pub fn cache_kind(rest: Option<&[u8]>) -> Result<(bool, Option<&[u8]>), Code>
 }
 
 /// `off`, or `on`. Our own.
-#[tactic(auto, unfolding(crate::specs::Classes::item_at, crate::specs::Classes::chosen_of, crate::specs::Classes::place_of))]
+#[tactic(auto, unfolding(crate::specs::WordReading::item_at, crate::specs::WordReading::chosen_of, crate::specs::Classes::place_of))]
 pub fn at_start(rest: Option<&[u8]>) -> Result<(bool, Option<&[u8]>), Code>
     ensures { Gives (λ x. (N (flag_place x.0), words_left x.1)) result (item_at (Chosen Starts)
         (words_left rest.entry)) }
@@ -336,7 +337,7 @@ pub fn at_start(rest: Option<&[u8]>) -> Result<(bool, Option<&[u8]>), Code>
 }
 
 /// `plain`, `clock` or `halt`. Our own.
-#[tactic(auto, unfolding(crate::specs::Classes::item_at, crate::specs::Classes::chosen_of, crate::specs::Classes::place_of))]
+#[tactic(auto, unfolding(crate::specs::WordReading::item_at, crate::specs::WordReading::chosen_of, crate::specs::Classes::place_of))]
 pub fn policy(rest: Option<&[u8]>) -> Result<(Policy, Option<&[u8]>), Code>
     ensures { Gives (λ x. (N (policy_place x.0), words_left x.1)) result (item_at (Chosen Policies)
         (words_left rest.entry)) }
@@ -354,7 +355,7 @@ pub fn policy(rest: Option<&[u8]>) -> Result<(Policy, Option<&[u8]>), Code>
 }
 
 /// `fs`, or `nofs`. Our own.
-#[tactic(auto, unfolding(crate::specs::Classes::item_at, crate::specs::Classes::chosen_of, crate::specs::Classes::place_of))]
+#[tactic(auto, unfolding(crate::specs::WordReading::item_at, crate::specs::WordReading::chosen_of, crate::specs::Classes::place_of))]
 pub fn walk_kind(rest: Option<&[u8]>) -> Result<(bool, Option<&[u8]>), Code>
     ensures { Gives (λ x. (N (flag_place x.0), words_left x.1)) result (item_at (Chosen Walks)
         (words_left rest.entry)) }
@@ -370,7 +371,7 @@ pub fn walk_kind(rest: Option<&[u8]>) -> Result<(bool, Option<&[u8]>), Code>
 }
 
 /// `nodes`, or `flat`. Our own.
-#[tactic(auto, unfolding(crate::specs::Classes::item_at, crate::specs::Classes::chosen_of, crate::specs::Classes::place_of))]
+#[tactic(auto, unfolding(crate::specs::WordReading::item_at, crate::specs::WordReading::chosen_of, crate::specs::Classes::place_of))]
 pub fn pool_kind(rest: Option<&[u8]>) -> Result<(bool, Option<&[u8]>), Code>
     ensures { Gives (λ x. (N (flag_place x.0), words_left x.1)) result (item_at (Chosen PoolKinds)
         (words_left rest.entry)) }

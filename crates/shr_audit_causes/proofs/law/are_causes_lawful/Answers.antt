@@ -1,5 +1,5 @@
 use Rattle.shr_audit_formed.proofs.Eachs.{fails}
-use Rattle.shr_report.specs.CausesLawful.{AreCausesLawful}
+use Rattle.shr_laws.specs.CausesLawful.{AreCausesLawful}
 use Rattle.shr_audit_causes.specs.Rows.{AreRowsCaused}
 use Rattle.shr_audit_causes.proofs.Fields.{others_of, whole_of}
 use Rattle.shr_audit_causes.proofs.law.are_causes_lawful.Goals as goal

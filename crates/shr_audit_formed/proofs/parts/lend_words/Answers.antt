@@ -1,4 +1,4 @@
-use Rattle.shr_report.specs.WellFormed.{LendsWord}
+use Rattle.shr_laws.specs.WellFormed.{LendsWord}
 use Rattle.shr_audit_formed.proofs.Eachs.{each_more, each_all}
 use Rattle.shr_audit_formed.proofs.parts.lend_words.Goals as goal
 

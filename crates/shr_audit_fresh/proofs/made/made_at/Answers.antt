@@ -1,4 +1,4 @@
-use Rattle.shr_report.specs.Parts.{serial_of}
+use Rattle.shr_laws.specs.Parts.{serial_of}
 use Rattle.shr_audit_fresh.proofs.MadeLaws.{no_answer_shown, no_command_shown, shown_here}
 use Rattle.shr_audit_fresh.proofs.made.made_at.Goals as goal
 

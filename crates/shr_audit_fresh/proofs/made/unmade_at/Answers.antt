@@ -1,4 +1,4 @@
-use Rattle.shr_report.specs.Parts.{serial_of}
+use Rattle.shr_laws.specs.Parts.{serial_of}
 use Rattle.shr_audit_fresh.proofs.MadeLaws.{says_none, says_so}
 use Rattle.shr_audit_fresh.proofs.made.unmade_at.Goals as goal
 

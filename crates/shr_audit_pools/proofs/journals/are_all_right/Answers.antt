@@ -1,5 +1,5 @@
 use Rattle.shr_audit_formed.proofs.Eachs.{each_all, each_more}
-use Rattle.shr_report.specs.Pools.{AreUnitsRight}
+use Rattle.shr_laws.specs.Pools.{AreUnitsRight}
 use Rattle.shr_audit_pools.proofs.journals.are_all_right.Goals as goal
 
 pub loop-units-preserved : goal.loop-units-preserved

@@ -2,7 +2,7 @@ use Rattle.std.proofs.Common.{◌≡◌, drop}
 use Rattle.std.specs.Prelude.{find}
 use Rattle.shr_base.specs.declared.ends.UnitsEnd.{UnitsEnd}
 use Rattle.shr_model.specs.Places.{is_place}
-use Rattle.shr_report.specs.WellFormed.{units_place}
+use Rattle.shr_laws.specs.WellFormed.{units_place}
 use Rattle.shr_audit_reasons.proofs.pools.units_at.Given as goal
 
 abbrev pub invariant-loop-units : goal.invariant-loop-units

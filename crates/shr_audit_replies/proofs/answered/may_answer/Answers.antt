@@ -1,4 +1,4 @@
-use Rattle.shr_report.specs.Parts.{journals_of, parents_of, serial_of}
+use Rattle.shr_laws.specs.Parts.{journals_of, parents_of, serial_of}
 use Rattle.shr_audit_replies.proofs.answered.may_answer.Goals as goal
 
 pub returns-in-None : goal.returns-in-None

@@ -1,6 +1,6 @@
 use Rattle.shr_audit_replies.proofs.Common.{On, Put, Some, Decides, IsReply, MayReply, subst}
 use Rattle.shr_audit_replies.specs.declared.entries.Tenant.{Tenant}
-use Rattle.shr_report.specs.Parts.{journals_of, serial_of}
+use Rattle.shr_laws.specs.Parts.{journals_of, serial_of}
 use Rattle.shr_audit_replies.proofs.citing.may_held.Goals as goal
 
 pub returns-in-Put : goal.returns-in-Put

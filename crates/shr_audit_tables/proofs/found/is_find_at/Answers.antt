@@ -1,5 +1,5 @@
 use Rattle.shr_base.specs.declared.scripts.Command.{Command}
-use Rattle.shr_report.specs.Parts.{command_at, serial_of}
+use Rattle.shr_laws.specs.Parts.{command_at, serial_of}
 use Rattle.shr_audit_tables.specs.Found.{IsFindRight}
 use Rattle.shr_audit_tables.proofs.found.is_find_at.Goals as goal
 use Rattle.shr_audit_formed.proofs.Eachs.{at_some}

@@ -1,4 +1,4 @@
-use Rattle.shr_model.specs.Pieces.{left}
+use Rattle.shr_model.specs.PieceParts.{left}
 use Rattle.shr_audit_text.proofs.Onto.{none_left}
 use Rattle.shr_audit_text.proofs.words.word.Goals as goal
 

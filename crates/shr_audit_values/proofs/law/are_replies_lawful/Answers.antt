@@ -1,5 +1,5 @@
 use Rattle.shr_audit_formed.proofs.Eachs.{fails}
-use Rattle.shr_report.specs.Replies.{AreRepliesLawful}
+use Rattle.shr_laws.specs.Replies.{AreRepliesLawful}
 use Rattle.shr_audit_replies.specs.Law.{AreRepliesLawfulButValues}
 use Rattle.shr_audit_replies.proofs.Whole.{but_values, lawful_of, values_lent}
 use Rattle.shr_audit_values.proofs.law.are_replies_lawful.Goals as goal

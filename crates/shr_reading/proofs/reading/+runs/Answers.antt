@@ -1,5 +1,6 @@
 use Rattle.std.proofs.Common.{◌++◌}
-use Rattle.shr_script.specs.Content.{IsSpelling, content_of}
+use Rattle.shr_script.specs.Spelling.{IsSpelling}
+use Rattle.shr_script.specs.Content.{content_of}
 use Rattle.shr_reading.specs.Parts.{end_text}
 use Rattle.shr_reading.proofs.Joins.{some_is, joined_is}
 use Rattle.shr_reading.proofs.reading.+runs.Goals as goal

@@ -1,7 +1,7 @@
 use Rattle.shr_run.proofs.Common.{◌≡◌, List, subst, IfOk, Ok, Err, Result, Ends, WorkerLog, AreEnds}
 use Rattle.shr_base.specs.declared.memory.Memory.{Memory}
 use Rattle.shr_base.specs.declared.scripts.Script.{Script}
-use Rattle.shr_report.specs.declared.report.Report.{Report}
+use Rattle.shr_laws.specs.declared.report.Report.{Report}
 use Rattle.shr_assemble.specs.Makes.{IsMadeOf}
 use Rattle.shr_run.specs.Made.{IsReportOfRun}
 use Rattle.shr_run.proofs.reporting.run_and_report.Goals as goal

@@ -2,7 +2,8 @@ use Rattle.std.proofs.Common.{◌≡◌, ◌∙◌, ℕ, List, ◌++◌, Option,
 use Rattle.std.specs.Prelude.{◌≢◌, IfSome, MatchOption, codes}
 use Rattle.std.proofs.lemmas.Slice.Eq.{strip_prefix_is}
 use Rattle.std.proofs.lemmas.Bool.Decides.{Decides-eqb}
-use Rattle.shr_model.specs.Pieces.{left, pieces}
+use Rattle.shr_model.specs.PieceParts.{left}
+use Rattle.shr_model.specs.Pieces.{pieces}
 use Rattle.shr_script.proofs.line.behind_put.Goals as goal
 
 -- the parts of bytes that begin so

@@ -1,5 +1,5 @@
 use Rattle.shr_script.proofs.Common.{said_state, drafted, words_left}
-use Rattle.shr_model.specs.Pieces.{left}
+use Rattle.shr_model.specs.PieceParts.{left}
 use Rattle.shr_script.proofs.PutLaws.{put_is}
 use Rattle.shr_script.proofs.line.plain_line.Goals as goal
 

@@ -1,5 +1,5 @@
 use Rattle.shr_script.proofs.Common.{refl, sym, subst, ◌≡◌, option_map, arith, ◌≤◌, State, start, said_state, drafted, run_of}
-use Rattle.shr_model.specs.Pieces.{left}
+use Rattle.shr_model.specs.PieceParts.{left}
 use Rattle.shr_script.proofs.RunLaws.{run_ended, run_goes_on, run_out}
 use Rattle.shr_script.proofs.ReadLaws.{run_stops}
 use Rattle.shr_script.proofs.GrowthLaws.{Few, few_start, few_lines, part_grows, said_lines}

@@ -1,5 +1,5 @@
 use Rattle.shr_script.specs.Content.{content_of, spell}
-use Rattle.shr_report.specs.Text.{text}
+use Rattle.shr_laws.specs.Text.{text}
 use Rattle.shr_tool.specs.Top.{report_text}
 use Rattle.shr_tool.proofs.top.serve.Goals as goal
 

@@ -1,4 +1,5 @@
-use Rattle.shr_model.specs.Pieces.{left, pieces}
+use Rattle.shr_model.specs.PieceParts.{left}
+use Rattle.shr_model.specs.Pieces.{pieces}
 use Rattle.shr_words.proofs.DigitLaws.{digit_item}
 use Rattle.shr_words.proofs.word.number.Goals as goal
 

@@ -1,6 +1,6 @@
 use Rattle.shr_words.proofs.Common.{refl, is_visible}
-use Rattle.shr_model.specs.Pieces.{left}
-use Rattle.shr_words.specs.Classes.{taken}
+use Rattle.shr_model.specs.PieceParts.{left}
+use Rattle.shr_words.specs.WordReading.{taken}
 use Rattle.shr_words.proofs.TakenLaws.{cut_is}
 use Rattle.shr_words.proofs.word.visible_word.Goals as goal
 

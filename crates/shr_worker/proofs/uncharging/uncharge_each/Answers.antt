@@ -1,7 +1,8 @@
 use Rattle.shr_worker.proofs.Common.{length, take, refl, ap, sym, subst, ◌∙◌, ◌<◌, ◌≤◌, ◌++◌, ◌∷◌, [], List, arith, Object, UseStep, AllUncharged}
 use Rattle.std.proofs.lemmas.Grind.{take_at_read}
 use Rattle.shr_model.proofs.GroupsLaws.{depth_of-le}
-use Rattle.shr_model.specs.Groups.{depth_of, path_of}
+use Rattle.shr_model.specs.Trees.{depth_of}
+use Rattle.shr_model.specs.Groups.{path_of}
 use Rattle.atomic_table.proofs.Lists.{at_index}
 use Rattle.shr_charge.specs.Charging.{AreDowns}
 use Rattle.shr_charge.specs.declared.table.Charge.{Charge}

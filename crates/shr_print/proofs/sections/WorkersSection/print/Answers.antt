@@ -3,9 +3,9 @@ use Rattle.std.proofs.lemmas.Option.{slice_get_read}
 use Rattle.std.specs.List.{AllByRecursion}
 use Rattle.shr_outside.proofs.Printing.{prints_as, prints_both}
 use Rattle.shr_outside.specs.Paper.{Prints}
-use Rattle.shr_report.specs.Numbers.{IsPartNumbered}
-use Rattle.shr_report.specs.WellFormed.{IsPartWell}
-use Rattle.shr_report.specs.Text.{worker_lines}
+use Rattle.shr_laws.specs.Numbers.{IsPartNumbered}
+use Rattle.shr_laws.specs.WellFormed.{IsPartWell}
+use Rattle.shr_laws.specs.Text.{worker_lines}
 use Rattle.shr_print.specs.Joined.{run_none, numbered_none}
 use Rattle.shr_print.proofs.Runs.{texts_more, facts_more}
 use Rattle.shr_print.proofs.sections.WorkersSection.print.Goals as goal

@@ -1,8 +1,9 @@
 use Rattle.std.specs.List.{AllByRecursion}
 use Rattle.shr_outside.specs.Paper.{Prints}
-use Rattle.shr_report.specs.Lines.{numbered}
-use Rattle.shr_report.specs.Numbers.{IsPartNumbered, ArePartsWell}
-use Rattle.shr_report.specs.Text.{worker_lines}
+use Rattle.shr_laws.specs.Lines.{numbered}
+use Rattle.shr_laws.specs.Numbers.{IsPartNumbered}
+use Rattle.shr_laws.specs.PartNumbers.{ArePartsWell}
+use Rattle.shr_laws.specs.Text.{worker_lines}
 use Rattle.shr_print.specs.Runs.{run_of}
 use Rattle.shr_print.proofs.sections.WorkersSection.print.Given as goal
 

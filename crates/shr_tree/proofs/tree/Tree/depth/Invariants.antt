@@ -1,5 +1,5 @@
 use Rattle.std.proofs.Common.{◌≡◌, ◌+◌, ◌<◌, length}
-use Rattle.shr_model.specs.Groups.{depth_of}
+use Rattle.shr_model.specs.Trees.{depth_of}
 use Rattle.shr_tree.proofs.tree.Tree.depth.Given as goal
 
 abbrev pub invariant-loop-at : goal.invariant-loop-at

@@ -1,5 +1,5 @@
 use Rattle.shr_walk.proofs.Common.{[], ◌∷◌, ◌++◌, ap, subst, ◌∙◌, Acting, Does, state_of, record_of, walk_work}
-use Rattle.shr_base.specs.Kept.{kept}
+use Rattle.shr_base.specs.KeptLists.{kept}
 use Rattle.shr_base.specs.Walks.{WalkRecord}
 use Rattle.shr_walk.proofs.Acted.{does_note}
 use Rattle.shr_walk.proofs.worker.Worker.note.Goals as goal
