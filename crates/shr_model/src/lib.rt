@@ -2,5 +2,5 @@
 //! nothing to run.
 //!
 //! What a reader must believe stands in `specs`; what the prover needs of it in `proofs`.
-//! `docs/MODEL.md` has the definitions in plain words.
+//! `docs/BELIEVE.md` has the definitions in plain words.
 #![tactic(auto)]
