@@ -9,6 +9,8 @@ pub mod plans;
 mod recorded;
 #[cfg(test)]
 mod running;
+pub mod passes;
+pub mod simple;
 
 /// The number of objects per scan call where a shrinker's batch is 0.
 ///

@@ -154,15 +154,15 @@ pub use Rattle.shr_pool.specs.Worked.{only_job}
 pub use Rattle.shr_pool.specs.declared.items.SweepItem.{SweepItem}
 pub use Rattle.shr_pool.specs.declared.items.SweepItem.TheVariants.{End}
 pub use Rattle.shr_pool.specs.declared.items.SweepJob.{SweepJob}
-pub use Rattle.shr_reclaim.proofs.Netting.{below_not, count_first, nets_charged, nets_downs, nets_refused, times_both, times_of}
-pub use Rattle.shr_reclaim.proofs.Reclaimed.{kept_of, over_of}
-pub use Rattle.shr_reclaim.proofs.Refusing.{refused_above, refused_on, way_few, way_once}
-pub use Rattle.shr_reclaim.specs.Admitting.{AdmissionGives, AreRoundsCut}
-pub use Rattle.shr_reclaim.specs.Rounds.{AreRounds, AreVisited, Round, TriesInRounds, Visit, VisitHadMemory, due_in, job_in, walk_for}
-pub use Rattle.shr_reclaim.specs.Trying.{IsChargeTried, Refusal, charge_work, refused}
-pub use Rattle.shr_reclaim.specs.declared.answers.Admission.{Admission}
-pub use Rattle.shr_reclaim.specs.declared.answers.Admission.TheVariants.{Charged, Memory, Over}
-pub use Rattle.shr_reclaim.proofs.Settling.{Closes, refused_closes}
+pub use Rattle.shr_walk.proofs.Netting.{below_not, count_first, nets_charged, nets_downs, nets_refused, times_both, times_of}
+pub use Rattle.shr_walk.proofs.Reclaimed.{kept_of, over_of}
+pub use Rattle.shr_walk.proofs.Refusing.{refused_above, refused_on, way_few, way_once}
+pub use Rattle.shr_walk.specs.Admitting.{AdmissionGives, AreRoundsCut}
+pub use Rattle.shr_walk.specs.Rounds.{AreRounds, AreVisited, Round, TriesInRounds, Visit, VisitHadMemory, due_in, job_in, walk_for}
+pub use Rattle.shr_walk.specs.Trying.{IsChargeTried, Refusal, charge_work, refused}
+pub use Rattle.shr_walk.specs.declared.admission.Admission.{Admission}
+pub use Rattle.shr_walk.specs.declared.admission.Admission.TheVariants.{Charged, Memory, Over}
+pub use Rattle.shr_walk.proofs.Settling.{Closes, refused_closes}
 pub use Rattle.shr_registry.specs.Ending.{AreNodeDraws, Frees, Halves, StoppedBy, UnregisterGives, drawn_from, ended_turn, made_from}
 pub use Rattle.shr_laws.specs.BitsLawful.{AreBitsLawful, has_bit, shows_bit}
 pub use Rattle.shr_laws.specs.Causes.{MayHaveBegun, drained_by, moved_of}

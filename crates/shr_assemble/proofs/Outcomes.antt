@@ -2,7 +2,7 @@
 use Rattle.shr_assemble.proofs.Common.{◌≡◌, ◌≢◌, ℕ, ◌+◌, ◌<◌, ◌&&◌, ◌||◌, inl, inr, ⊎_elim, Bool, true, false, cond, ◌==◌, List, [], ◌∷◌, ◌++◌, length, map, refl, sym, ap, subst, ◌∙◌, arith, append_assoc, ne_eqb, Option, filter, replicate, AllByRecursion, list_any, cases_Bool, eqb-true, append-nil, dite, ℕ_discrete, UseStep, is_refused, IsBelow, is_at_or_above, IsTree, parent_of, path_of, path_of-root, path_of-below, IsOn, by_parents, on_self, on_le, Has, path_to, way_here, way_root, way_up, times_of, count_first, way_once, below_not}
 use Rattle.shr_assemble.proofs.WalkingCharges.{GoesDown}
 use Rattle.shr_lawful.proofs.Listed.{has_number}
-use Rattle.shr_reclaim.proofs.Netting.{over_is}
+use Rattle.shr_walk.proofs.Netting.{over_is}
 
 -- whether each up was refused
 abbrev pub outcomes : Option ℕ → List UseStep → List Bool

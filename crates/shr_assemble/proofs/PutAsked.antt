@@ -3,7 +3,7 @@ use Rattle.shr_assemble.proofs.Common.{◌≡◌, ◌⊎◌, ⊎_elim, inl, inr,
 use Rattle.shr_base.specs.declared.replies.Reply.TheVariants as reply
 use Rattle.shr_model.specs.Commands.{rounds_from}
 use Rattle.shr_charge.specs.declared.answers.GroupState.TheVariants as state
-use Rattle.shr_reclaim.specs.declared.answers.Admission.TheVariants as admission
+use Rattle.shr_walk.specs.declared.admission.Admission.TheVariants as admission
 use Rattle.shr_laws.specs.WalksLawful as walks
 use Rattle.shr_assemble.proofs.QuietTenant.{brings_of, brings_then, without}
 use Rattle.shr_assemble.proofs.PutAdmits.{Admits, admits, stands_in, named_by, admitted_front, admitted_told, stood_by, ops_same, put_charges, ops_back}

@@ -8,7 +8,7 @@ use Rattle.shr_node.specs.declared.answers.NodeAnswer.{NodeAnswer}
 use Rattle.shr_node.specs.declared.answers.NodeAnswer.TheVariants as answers
 use Rattle.shr_cache.specs.Puts.{Offers}
 use Rattle.shr_cache.specs.Replies.{ListReplies, add_says, answer_reply}
-use Rattle.shr_reclaim.specs.declared.answers.Admission.TheVariants as admission
+use Rattle.shr_walk.specs.declared.admission.Admission.TheVariants as admission
 use Rattle.shr_laws.specs.Parts as report
 use Rattle.shr_charge.specs.Views as charge
 use Rattle.shr_assemble.proofs.QuietTenant.{brings_of, without, group_in, made_entry, made_bits, made_same}

@@ -6,7 +6,7 @@ use Rattle.shr_node.specs.declared.answers.NodeAnswer.{NodeAnswer}
 use Rattle.shr_node.specs.declared.answers.NodeAnswer.TheVariants as answers
 use Rattle.shr_cache.specs.Puts.{Offers}
 use Rattle.shr_cache.specs.Replies.{add_says, answer_reply}
-use Rattle.shr_reclaim.specs.declared.answers.Admission.TheVariants as admission
+use Rattle.shr_walk.specs.declared.admission.Admission.TheVariants as admission
 use Rattle.shr_laws.specs.WalksLawful as walks
 use Rattle.shr_lawful.proofs.Gathering.{among_left, among_right}
 use Rattle.shr_lawful.proofs.Listed.{contains_among}

@@ -6,7 +6,7 @@ use Rattle.shr_base.specs.declared.scripts.Code.{Code}
 use Rattle.shr_script.proofs.ReadLaws.{faultless, same_fault}
 use Rattle.shr_audit.specs.declared.verdict.Law.TheVariants as laws
 use Rattle.shr_audit.specs.declared.verdict.Verdict.{Verdict}
-use Rattle.shr_audit_values.specs.Once.{IsPrintedOnce}
+use Rattle.shr_audit_replies.specs.Once.{IsPrintedOnce}
 use Rattle.shr_audit.proofs.Order.{one_number}
 use Rattle.shr_audit.proofs.OneReport.{one_report}
 use Rattle.shr_audit.proofs.OneScript.{one_script}

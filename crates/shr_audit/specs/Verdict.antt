@@ -16,7 +16,7 @@ use Rattle.shr_laws.specs.Isolated.{AreIsolationsLawful}
 use Rattle.shr_laws.specs.Swept.{IsSweepLawful}
 use Rattle.shr_laws.specs.Lawful.{IsBagLawful, IsLawful}
 use Rattle.shr_audit_text.specs.Reading.{IsReportOf}
-use Rattle.shr_audit_values.specs.Once.{AreCitedOnce}
+use Rattle.shr_audit_replies.specs.Once.{AreCitedOnce}
 use Rattle.shr_audit.specs.declared.verdict.Law.{Law}
 use Rattle.shr_audit.specs.declared.verdict.Law.TheVariants as laws
 use Rattle.shr_audit.specs.declared.verdict.Verdict.{Verdict}

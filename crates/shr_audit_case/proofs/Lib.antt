@@ -24,3 +24,4 @@ pub mod Merging
 pub mod Noting
 mod RegistrationsValues
 mod Spanning
+pub mod Upto

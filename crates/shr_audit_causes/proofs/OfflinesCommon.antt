@@ -10,7 +10,7 @@ pub use Rattle.std.specs.Prelude.{min, not, option_map, slice_get, sum_by, ◌&&
 pub use Rattle.shr_audit_reasons.specs.Cites.{AreCited, AnswerCites, TellsCited, cited_in}
 pub use Rattle.shr_audit_reasons.specs.declared.cites.Cited.{Cited}
 pub use Rattle.shr_audit_reasons.specs.declared.cites.Cited.TheVariants.{Never, Often, Once}
-pub use Rattle.shr_audit_fresh.proofs.Upto.{upto_all, upto_fails, upto_more}
+pub use Rattle.shr_audit_case.proofs.Upto.{upto_all, upto_fails, upto_more}
 pub use Rattle.shr_base.specs.declared.ends.PlaceEnd.{PlaceEnd}
 pub use Rattle.shr_base.specs.declared.ends.WorkerPart.{WorkerPart}
 pub use Rattle.shr_base.specs.declared.journals.Entry.{Entry}

@@ -3,7 +3,7 @@ pub use Rattle.std.proofs.Common.{Bool, List, None, Option, Some, [], ap, arith,
 pub use Rattle.std.specs.BTreeMap.{BTreeMap, Updates, get, is_at}
 pub use Rattle.std.specs.Bool.{Decides}
 pub use Rattle.std.specs.Prelude.{nat_lt, option_and_then, option_map, sum_by, unwrap_or, ◌==◌, ◌||◌}
-pub use Rattle.shr_audit_fresh.proofs.Upto.{upto_all, upto_fails, upto_more}
+pub use Rattle.shr_audit_case.proofs.Upto.{upto_all, upto_fails, upto_more}
 pub use Rattle.shr_base.specs.declared.ends.PlaceEnd.{PlaceEnd}
 pub use Rattle.shr_base.specs.declared.journals.Entry.{Entry}
 pub use Rattle.shr_base.specs.declared.journals.Entry.TheVariants.{Closed, Drained}

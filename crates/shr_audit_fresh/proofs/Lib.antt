@@ -3,7 +3,6 @@ mod Answering
 mod RisingLaws
 mod FloorLaws
 mod WalkFloors
-pub mod Upto
 pub mod FirstLaws
 mod OnLaws
 mod RefusedLaws

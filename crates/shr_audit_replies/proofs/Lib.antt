@@ -6,3 +6,12 @@ mod Answering
 mod Risings
 pub mod Whole
 mod RepliesValues
+mod LendingCommon
+mod Lending
+mod LentReplying
+mod Places
+mod LentValues
+mod OnceCommon
+mod OnceOrder
+mod OnceLaws
+mod OnceValues

@@ -3,3 +3,5 @@ pub mod Answers
 pub mod Cited
 pub mod Rising
 pub mod Law
+pub mod Lent
+pub mod Once

@@ -10,3 +10,6 @@ pub mod law;
 pub mod numbers;
 pub mod rising;
 pub mod rows;
+pub mod values;
+pub mod lent;
+pub mod once;

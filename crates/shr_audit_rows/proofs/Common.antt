@@ -10,7 +10,7 @@ pub use Rattle.std.specs.Bool.{Decides}
 pub use Rattle.std.specs.HashMap.{get}
 pub use Rattle.std.specs.Option.{IsSomeAnd}
 pub use Rattle.std.specs.Prelude.{IsPermutation, find, if◌then◌else◌, is_none, is_some, nat_eq, nat_le, nat_lt, not, option_and_then, option_map, option_to_list, slice_get, unwrap_or, ◌&&◌, ◌==◌, ◌||◌}
-pub use Rattle.shr_audit_fresh.proofs.Upto.{upto_all, upto_fails, upto_more}
+pub use Rattle.shr_audit_case.proofs.Upto.{upto_all, upto_fails, upto_more}
 pub use Rattle.shr_base.specs.declared.ends.WorkerPart.{WorkerPart}
 pub use Rattle.shr_base.specs.declared.journals.PoolEntry.{PoolEntry}
 pub use Rattle.shr_base.specs.declared.journals.UseStep.{UseStep}

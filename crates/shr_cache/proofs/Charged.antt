@@ -4,8 +4,8 @@ use Rattle.shr_base.specs.declared.places.Target.{Target}
 use Rattle.shr_base.specs.declared.replies.Reply.TheVariants as reply
 use Rattle.shr_base.specs.declared.replies.Spent.TheVariants as spent
 use Rattle.shr_charge.specs.declared.answers.GroupState.TheVariants.{Online}
-use Rattle.shr_reclaim.specs.Admitting.{AdmissionGives}
-use Rattle.shr_reclaim.specs.declared.answers.Admission.TheVariants.{Charged}
+use Rattle.shr_walk.specs.Admitting.{AdmissionGives}
+use Rattle.shr_walk.specs.declared.admission.Admission.TheVariants.{Charged}
 use Rattle.shr_cache.specs.Replies.{has_added}
 
 apart : false ≡ true → ⊥

@@ -12,9 +12,9 @@ use Rattle.shr_core.specs.Seats.{shape_of}
 use Rattle.shr_charge.specs.declared.answers.GroupState.TheVariants.{Online, Offline, NotMade}
 use Rattle.shr_node.specs.declared.answers.NodeAnswer.{NodeAnswer}
 use Rattle.shr_node.specs.Answers.{AddGives}
-use Rattle.shr_reclaim.specs.declared.answers.Admission.{Admission}
-use Rattle.shr_reclaim.specs.declared.answers.Admission.TheVariants as admission
-use Rattle.shr_reclaim.specs.Admitting.{AdmissionGives}
+use Rattle.shr_walk.specs.declared.admission.Admission.{Admission}
+use Rattle.shr_walk.specs.declared.admission.Admission.TheVariants as admission
+use Rattle.shr_walk.specs.Admitting.{AdmissionGives}
 use Rattle.shr_walk.specs.declared.seats.Shared.{Shared}
 use Rattle.shr_walk.specs.State.{WorkerState}
 use Rattle.shr_cache.specs.Opening.{LoadsWord, HoldsCache, MissesAs, Calls, Uncharges, MayCharge, IsWorkerSpent}

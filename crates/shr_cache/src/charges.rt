@@ -4,7 +4,7 @@ ghost use Rattle.std.specs.Prelude.{◌<◌};
 ghost use Rattle.shr_seats.specs.Shapes.{groups_in};
 ghost use Rattle.shr_core.specs.Seats.{shape_of};
 ghost use Rattle.shr_walk.specs.Acting.{IsSame};
-ghost use Rattle.shr_reclaim.specs.Admitting.{CanTakeBack};
+ghost use Rattle.shr_walk.specs.Admitting.{CanTakeBack};
 ghost use Rattle.shr_cache.specs.Opening.{Uncharges};
 
 use shr_walk::worker::Worker;

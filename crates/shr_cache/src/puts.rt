@@ -19,8 +19,8 @@ use shr_base::text::Text;
 use shr_charge::answers::GroupState;
 use shr_node::answers::NodeAnswer;
 use shr_node::tenants::add;
-use shr_reclaim::answers::Admission;
-use shr_reclaim::charging::try_charge;
+use shr_walk::admission::Admission;
+use shr_walk::charging::try_charge;
 use shr_walk::worker::Worker;
 use std::sync::Wait;
 

@@ -1,5 +1,5 @@
 -- How hard the buffers are squeezed.
-use Rattle.shr_simple.specs.declared.passes.Pressure.{Pressure}
+use Rattle.shr_arith.specs.declared.passes.Pressure.{Pressure}
 
 -- a quarter of the count, at the cost of 2 seeks
 abbrev pub mild : Pressure

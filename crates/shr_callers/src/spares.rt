@@ -1,12 +1,12 @@
 //! A pass over a shrinker of one's own: buffers that are kept for later use.
 
 ghost use Rattle.std.specs.Prelude.{◌≡◌, ◌+◌, ◌<◌, ◌≤◌, vec_len, IfSome, IfNone};
-ghost use Rattle.shr_simple.specs.Losing.{Loses, loses_none, loses_then};
-ghost use Rattle.shr_simple.specs.Passes.{IsPass, freed_of};
+ghost use Rattle.shr_arith.specs.Losing.{Loses, loses_none, loses_then};
+ghost use Rattle.shr_arith.specs.Passes.{IsPass, freed_of};
 ghost use Rattle.shr_callers.specs.Squeezing.{mild};
 
-use shr_simple::passes::{Pass, Pressure, shrink};
-use shr_simple::simple::Simple;
+use shr_arith::passes::{Pass, Pressure, shrink};
+use shr_arith::simple::Simple;
 
 /// Buffers that are kept for later use.
 #[derive(Drop)]

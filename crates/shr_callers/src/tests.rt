@@ -4,7 +4,7 @@ use crate::bounded::{Added, Cache};
 use crate::spares::{Spares, squeeze};
 use shr_base::text::Text;
 use shr_list::answers::LookAnswer;
-use shr_simple::passes::Pass;
+use shr_arith::passes::Pass;
 use std::alloc::Global;
 use std::test::Fail;
 

@@ -7,7 +7,7 @@ use Rattle.shr_core.specs.Seats.{shape_of}
 use Rattle.shr_walk.specs.Balances.{walk_freed}
 use Rattle.shr_walk.specs.State.{WorkerState}
 use Rattle.shr_walk.specs.declared.seats.Shared.{Shared}
-use Rattle.shr_reclaim.specs.Rounds.{Visit, AreVisited, IsLastVisitCut, WalksAll, job_in}
+use Rattle.shr_walk.specs.Rounds.{Visit, AreVisited, IsLastVisitCut, WalksAll, job_in}
 use Rattle.shr_pool.specs.Lines.{queue_line}
 use Rattle.shr_pool.specs.declared.items.SweepItem.{SweepItem}
 use Rattle.shr_pool.specs.declared.items.SweepItem.TheVariants.{Walk, End}

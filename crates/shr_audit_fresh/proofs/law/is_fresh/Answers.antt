@@ -1,6 +1,6 @@
 use Rattle.shr_audit_fresh.proofs.Common.{ℕ, ◌≤◌, List, true, false, sym, subst, arith, TreeEntry, Cited, AreCited, EachItem, IsTreeNumbered, IsWorkerFresh}
 use Rattle.shr_audit_reasons.specs.declared.cites.What.TheVariants as say
-use Rattle.shr_audit_fresh.proofs.Upto.{upto_all, upto_fails, upto_more}
+use Rattle.shr_audit_case.proofs.Upto.{upto_all, upto_fails, upto_more}
 use Rattle.shr_audit_fresh.proofs.Workers.{fresh_of, fresh_past}
 use Rattle.shr_audit_fresh.proofs.law.is_fresh.Goals as goal
 

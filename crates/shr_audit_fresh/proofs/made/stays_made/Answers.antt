@@ -1,6 +1,6 @@
 use Rattle.shr_audit_fresh.proofs.Common.{ℕ, ◌≤◌, subst, arith, StaysMadeAt}
 use Rattle.shr_audit_fresh.proofs.MadeLaws.{made_fails, made_next, made_start, past_made, stays_here}
-use Rattle.shr_audit_fresh.proofs.Upto.{upto_all, upto_more}
+use Rattle.shr_audit_case.proofs.Upto.{upto_all, upto_more}
 use Rattle.shr_audit_fresh.proofs.made.stays_made.Goals as goal
 
 pub loop-number-init : goal.loop-number-init

@@ -1,6 +1,6 @@
 use Rattle.shr_audit_fresh.proofs.Common.{ℕ, ◌≤◌, subst, arith, IsOnSeenAt}
 use Rattle.shr_audit_fresh.proofs.OnLaws.{past_on}
-use Rattle.shr_audit_fresh.proofs.Upto.{upto_all, upto_fails, upto_more}
+use Rattle.shr_audit_case.proofs.Upto.{upto_all, upto_fails, upto_more}
 use Rattle.shr_audit_fresh.proofs.onset.is_on_seen.Goals as goal
 
 pub loop-number-preserved : goal.loop-number-preserved

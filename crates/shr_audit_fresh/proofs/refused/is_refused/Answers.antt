@@ -1,6 +1,6 @@
 use Rattle.shr_audit_fresh.proofs.Common.{ℕ, ◌≤◌, subst, arith, IsRefusedAt}
 use Rattle.shr_audit_fresh.proofs.RefusedLaws.{past_refused}
-use Rattle.shr_audit_fresh.proofs.Upto.{upto_all, upto_fails, upto_more}
+use Rattle.shr_audit_case.proofs.Upto.{upto_all, upto_fails, upto_more}
 use Rattle.shr_audit_fresh.proofs.refused.is_refused.Goals as goal
 
 pub loop-number-preserved : goal.loop-number-preserved

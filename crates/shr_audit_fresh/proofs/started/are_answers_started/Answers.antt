@@ -1,6 +1,6 @@
 use Rattle.shr_audit_fresh.proofs.Common.{ℕ, ◌≤◌, List, subst, arith, Decides, Answered, Cited, Report, of_answer, tree_cited, serial_of, IsEntryStarted}
 use Rattle.shr_audit_fresh.proofs.StartedLaws.{past_started}
-use Rattle.shr_audit_fresh.proofs.Upto.{upto_all, upto_fails, upto_more}
+use Rattle.shr_audit_case.proofs.Upto.{upto_all, upto_fails, upto_more}
 use Rattle.shr_audit_fresh.proofs.started.are_answers_started.Goals as goal
 
 abbrev So : Report → List Cited → ℕ → ℕ → Type 0

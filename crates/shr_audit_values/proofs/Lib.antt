@@ -1,9 +1,0 @@
-mod Common
-mod Lending
-mod Replying
-mod Places
-mod LentValues
-mod OnceCommon
-mod OnceOrder
-mod OnceLaws
-mod OnceValues

@@ -1,9 +1,0 @@
-use Rattle.shr_reclaim.proofs.Common.{◌≡◌, List, take, IsSame, jobs_on, Visit, WalksAll}
-use Rattle.shr_reclaim.proofs.rounds.walk_node.Given as goal
-
-abbrev pub invariant-loop-group : goal.invariant-loop-group
-invariant-loop-group g l = record {
-  groups : l.groups ≡ l.fn.groups;
-  walked : (walks : List Visit) × WalksAll l.fn.worker.shared l.fn.worker.by (jobs_on l.node l.priority (take l.group-index l.groups)) walks l.fn.worker.state l.worker.state;
-  same : IsSame l.fn.worker l.worker;
-}

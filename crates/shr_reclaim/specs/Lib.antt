@@ -1,4 +1,0 @@
-pub mod Trying
-pub mod Rounds
-pub mod Admitting
-pub mod Looping
