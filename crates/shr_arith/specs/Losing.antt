@@ -1,3 +1,4 @@
+-- SPDX-License-Identifier: GPL-2.0-only
 -- A meaning of `frees` for a cache with a length: it is shorter by what was freed.
 use Rattle.std.specs.Prelude.{◌≡◌, ℕ, ◌+◌}
 use Rattle.std.proofs.Common.{sym, ◌∙◌, ap, add_assoc, zero-add}

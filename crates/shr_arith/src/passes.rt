@@ -1,12 +1,13 @@
+// SPDX-License-Identifier: GPL-2.0-only
 //! One pass.
 
 ghost use Rattle.std.specs.Prelude.{◌≡◌, ◌+◌, ◌*◌, ◌<◌, ◌≤◌, IfSome, IfNone};
 ghost use Rattle.shr_model.specs.Pass.{due, ask_size, MadeOf};
 ghost use Rattle.shr_arith.specs.Passes.{IsPass, freed_of, ending_of};
 
-use crate::simple::Simple;
 use crate::formulas::{next_ask, next_deferred, plan};
 use crate::plans::Plan;
+use crate::simple::Simple;
 
 /// How hard a pass presses on its objects.
 ///

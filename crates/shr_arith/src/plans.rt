@@ -1,3 +1,4 @@
+// SPDX-License-Identifier: GPL-2.0-only
 //! What a pass is planned to do.
 
 /// How many objects a pass is to scan, and how many with each scan call.

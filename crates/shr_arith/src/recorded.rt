@@ -1,3 +1,4 @@
+// SPDX-License-Identifier: GPL-2.0-only
 //! The distinct passes of one recording of a running Linux 6.12.117, as `tools/linux/trace --distinct` prints them.
 //!
 //! A line has the count, the deferred word, priority, seeks and batch of a pass; its delta and total;

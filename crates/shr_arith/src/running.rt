@@ -1,3 +1,4 @@
+// SPDX-License-Identifier: GPL-2.0-only
 //! The arithmetic, held against the passes of a running kernel.
 
 use crate::formulas::{next_ask, next_deferred, plan};

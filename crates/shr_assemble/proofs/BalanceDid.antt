@@ -1,3 +1,4 @@
+-- SPDX-License-Identifier: GPL-2.0-only
 -- A `balance` did what the report asks.
 use Rattle.shr_assemble.proofs.Common.{◌≡◌, ℕ, zero, suc, ◌+◌, ◌<◌, ◌≤◌, ◌⊎◌, inl, inr, ⊎_elim, Bool, true, false, ◌&&◌, List, [], ◌∷◌, ◌++◌, length, length-append, map, take, drop, sym, refl, ap, subst, ◌∙◌, arith, append_assoc, eq-eqb, ne_eqb, slice_get, Some, not, ◌==◌, if◌then◌else◌, Option, AllByRecursion, length-map, take-append-drop, map-append, none-some, Serial, Answered, Command, Balance, WalkAnswer, WalkRecord, preorder_of, Job, job, job_of, parents_of, Groups, HadMemory, WorkerState, no_work, Does, Shared, Walk, next_walk, unfound, walk_reply, in_take, balance_reply, all_groups, IsBalanced, IsBalanceCut, BalanceGives, Balances, Step, DidJobs, MayBeOffline, KnowsOnline, Reply, None}
 use Rattle.shr_assemble.proofs.QuietSteps.{meets_none}

@@ -1,3 +1,4 @@
+-- SPDX-License-Identifier: GPL-2.0-only
 -- The bit word of a place among those that a finished core prints.
 use Rattle.shr_assemble.proofs.Common.{◌≡◌, ℕ, zero, suc, ◌<◌, Bool, true, false, ◌&&◌, cond, List, [], ◌∷◌, ◌++◌, refl, ap, subst, ◌∙◌, arith, eqb, eq-eqb, ne_eqb, find, Option, Some, None, eqb-true, dite, ℕ_discrete, MapEnd, Place, unit_of, map_number, has_bit, find_back}
 use Rattle.std.proofs.lemmas.List.Folds.{find-append}

@@ -1,3 +1,4 @@
+-- SPDX-License-Identifier: GPL-2.0-only
 -- The steps of all workers from what is known of them at the end, and what they have in all.
 use Rattle.shr_assemble.proofs.Common.{◌≡◌, ℕ, zero, suc, ◌<◌, List, [], ◌∷◌, ◌++◌, length, sym, refl, ap, subst, ◌∙◌, arith, slice_get, Some, flat_map, same_Some, none-some, slice_get_within, AllByRecursion, Sweep, View, SweepItem, sweeps_of, Shared, IsShared, WorkerState, CrewState, WorkerLog, Step, gathered, BringsWork, new_worker, HasWorked, worker_commands, command_serial}
 pub use Rattle.shr_model.proofs.Lists.{there_at}

@@ -1,3 +1,4 @@
+-- SPDX-License-Identifier: GPL-2.0-only
 -- What a del did.
 use Rattle.shr_assemble.proofs.Common.{◌≡◌, ℕ, ◌+◌, ◌<◌, inl, inr, Bool, true, false, cond, ◌==◌, List, [], ◌∷◌, length, refl, sym, ap, subst, ◌∙◌, arith, Option, Some, None, bytes_eq, same_Some, none-some, and_parts, eqb-true, append-nil, sum_by-cons, DropKind, born_below, path_of, drop_kind_of, dropped_of, Made, Turns, spent_by, Uses, within_of_valid, does_then, is_past_group, added_below, made_freed_below, Step, Object, Serial, Target, At, Entry, Drop, Answered, Found, Reply, Spent, Command, On, Del, is_named, named_in, View, shape_of, Listed, IsObjectWithin, content_of, Shared, WorkerState, Work, no_work, then_work, Does, parents_of, length_after_drop, drop_entry, DropGives, not_spent}
 use Rattle.shr_base.specs.declared.journals.DropKind.TheVariants as kind

@@ -1,3 +1,4 @@
+-- SPDX-License-Identifier: GPL-2.0-only
 -- What a worker's part of the sweep did, and what each command did, put together.
 use Rattle.shr_assemble.proofs.Common.{◌≡◌, ℕ, ◌<◌, Bool, List, [], ◌∷◌, ◌++◌, length, map, sym, refl, ap, subst, ◌∙◌, sum, Some, None, AllByRecursion, append-nil, map-append, length-map, none-some, Serial, Target, Answered, Reply, Sweep, WalkAnswer, WalkRecord, Job, job_of, SweepItem, End, SweepJob, Visit, job_in, VisitHadMemory, AreVisited, parents_of, IsSwept, HadMemory, WorkerState, Shared, CrewState, unfound, Did, HasHelped, job_walked, IsSweepWalk, sweep_reply, slice_get, Command, Put, On, Get, Del, SetPin, Shrink, Balance, Offline, MkGroup, Register, Unregister, Isolate, Release, Grab, Script, Isolation, IsCommandWithin, IsIsolationWithin, content_of, isolations_told, DeedGives, isolate_there, Step, DidSweep, MayBeOffline, ◌⊎◌, KnowsOnline}
 use Rattle.shr_base.specs.declared.replies.Reply.TheVariants as reply

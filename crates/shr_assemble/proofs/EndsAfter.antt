@@ -1,3 +1,4 @@
+-- SPDX-License-Identifier: GPL-2.0-only
 -- Each step's state is so in the report, of a run whose workers are done.
 use Rattle.shr_assemble.proofs.Common.{◌≡◌, ℕ, ◌≤◌, List, ◌∷◌, ◌++◌, sym, refl, ap, subst, ◌∙◌, arith, slice_get, Some, All, slice_get_within, PoolEntry, TreeEntry, UseStep, Hierarchy, Each, Begins, begins_more, Loaded, IsNamed, IsTreeEntryMade, Uses, Shared, WorkerState, CrewState, Ends, Report, lookups_at, uses_at, WorkerLog, AreEndsOf, firsts_at_start, new_worker, IsMadeOf, Step, IsAmong, steps_of, Grows, BringsWork, IsShownIn, AreRunSteps, at_some, some_at, IsHeard, StandsInHistory, script_hierarchy, ◌+◌, ◌<◌, Bool, true, false, cond, [], length, drop, ◌==◌, option_and_then, dite, dec_lt, Found, decl_named, Registered, Unregistered, Idle, last_number, number_after, lookups_of, Dated, past_none, IsFoundBy, id_of, is_before, end_of, zero, suc, ◌*◌, ◌/◌, ne_eqb, if◌then◌else◌, bit_at, AllByRecursion, eqb-true, MapEnd, Place, place_number, each_append, groups_in, times, units_in, map_number, map_of, parents_of, IsThere, IsMarked, bit_place}
 use Rattle.shr_model.proofs.Lists.{there_at}

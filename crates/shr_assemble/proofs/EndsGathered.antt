@@ -1,3 +1,4 @@
+-- SPDX-License-Identifier: GPL-2.0-only
 -- What the first seats have in the end is what the steps of all workers have, and the opening.
 use Rattle.shr_assemble.proofs.Common.{◌≡◌, ℕ, List, ◌++◌, sym, refl, ap, subst, ◌∙◌, arith, flat_map, IsPermutation, None, slice_get_within, PlaceAmount, UseStep, Made, Tried, Turn, Uses, Moves, takes_of, gives_of, takes_both, gives_both, Shared, WorkerState, CrewState, Ends, Report, WorkerLog, Firsts, with_workers, firsts_at_start, AreEndsOf, new_worker, IsMadeOf, Step, all_made, all_attempts, all_cleared, all_sets, all_turns, all_entries, all_ops, all_takes, all_gives, AreRunJournals, ◌%◌, ◌<◌, ◌≤◌, ◌≢◌, ⊎_elim, true, [], ◌∷◌, length, eq-eqb, find, bit_at, eqb-true, Entry, PoolEntry, Object, Place, lists_moved_at, items_from, place_number, unit_of, bit_of, phase_of, is_live, items_none, times, units_in, place_id, group_of, map_number, map_of, items_now, groups_in, place_back, has_bit, parents_of, journals_of, items_left, IsThere, AreBitsLawful, shows_bit}
 use Rattle.shr_model.proofs.Lists.{there_at}

@@ -1,3 +1,4 @@
+-- SPDX-License-Identifier: GPL-2.0-only
 -- The operations of each group, and the journal of the tree, of a run whose workers are done.
 use Rattle.shr_assemble.proofs.Common.{◌≡◌, ℕ, ◌+◌, ◌≤◌, ⊎_elim, Bool, true, false, ◌&&◌, cond, List, [], ◌∷◌, length, sym, refl, ap, subst, ◌∙◌, arith, eqb, slice_get, Some, filter, IsPermutation, nat_lt, eqb-true, sum_by-IsPermutation, Contains-permutation, TreeEntry, UseStep, IsChargeHistory, Hierarchy, IsTreeJournal, hierarchy_of, Has, Contains_from_Has, filter_has, total, Shared, Ends, Report, uses_at, WorkerLog, AreEndsOf, IsMadeOf, StandsBefore, count_total, some_at, sum_total, le-ltb, AreUsesAndTree, times_at, StandsInHistory}
 use Rattle.shr_charge.specs.Offlining as offlining

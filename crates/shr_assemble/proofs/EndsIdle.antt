@@ -1,3 +1,4 @@
+-- SPDX-License-Identifier: GPL-2.0-only
 -- The lists of an id that is idle at the end are empty, of a run whose workers are done.
 use Rattle.shr_assemble.proofs.Common.{◌≡◌, ℕ, ⊎_elim, List, [], length, sym, ap, ◌∙◌, arith, ◌%◌, Entry, PoolEntry, Place, lists_moved_at, items_from, place_number, phase_of, items_none, place_id, place_back, Shared, Ends, Report, parents_of, journals_of, items_left, IsThere, WorkerLog, AreEndsOf, IsMadeOf}
 use Rattle.shr_assemble.proofs.ScriptGroups.{sized_of}

@@ -1,3 +1,4 @@
+-- SPDX-License-Identifier: GPL-2.0-only
 -- The journals of the lists, of a report whose places are those that a finished core leaves.
 use Rattle.shr_assemble.proofs.Common.{◌≡◌, ◌⊎◌, ◌≤◌, arith, content_of, within_of_valid, Shared, IsShared, ℕ, zero, suc, ◌+◌, ◌<◌, inl, inr, ⊎_elim, true, false, cond, List, [], ◌∷◌, ◌++◌, map, length, take, get_or, sym, refl, ap, subst, ◌∙◌, add-one, slice_get, Some, None, Contains, nat_lt, AllByRecursion, append-nil, take_all, map-append, Place, PlaceEnd, Entry, Object, IsTree, parent_of, is_child, is_closed, items_from, place_number, at_group, moved_in, before_closed, lists_moved_at, items_at, IsLegal, child_takes, Has, total, View, EndValue, end_value, place_ends, place_at, group_of, beside, IsLeft, Made, hit, items_now, back, place_back, Report, parents_of, journals_of, items_left, IsThere, Step, IsAmong, IsPrinted, AreRunJournals, all_made, some_at, IsPairedAt, items_stay, legal_stays, legal_none, places_in, node_of, above, family_of, slice_map, AreNumbersRising}
 use Rattle.shr_assemble.proofs.ScriptGroups.{sized_of}

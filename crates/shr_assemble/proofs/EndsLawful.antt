@@ -1,3 +1,4 @@
+-- SPDX-License-Identifier: GPL-2.0-only
 -- The report of a run whose workers are done is lawful for its script, and well formed.
 use Rattle.shr_assemble.proofs.Common.{◌≡◌, ◌+◌, List, Script, Shared, Ends, Report, IsFaithful, IsLawful, AreFreePutsAdded, DoPutsAddUp, IsWellFormed, within_of_valid, content_of, WorkerLog, Noted, IsMadeOf, printed_part, ArePrintedParts, AreEnds, IsPutTogether, IsRun, sym, subst, map}
 use Rattle.shr_assemble.proofs.ScriptGroups.{sized_of}

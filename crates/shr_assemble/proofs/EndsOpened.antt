@@ -1,3 +1,4 @@
+-- SPDX-License-Identifier: GPL-2.0-only
 -- How the journal of registrations begins, and who made its later entries, of a run whose workers are done.
 use Rattle.shr_assemble.proofs.Common.{◌≡◌, ℕ, ◌+◌, ◌<◌, ◌≤◌, ⊎_elim, Bool, cond, List, length, length-append, sym, ap, subst, ◌∙◌, arith, slice_get, Some, nat_lt, nat_le, ◌&&◌, cases_lt, le-leb, slice_get_within, some, get_elem?, PoolEntry, Registered, IsPoolJournal, total, Begins, total-append, total_zero, only_no, Turn, hit_turn, IsTurn, Shared, Ends, Report, decls_on, WorkerLog, AreEndsOf, firsts_at_start, new_worker, IsMadeOf, Step, IsAmong, AreStepsChained, steps_of, all_turns, at_some, some_at, not_le}
 use Rattle.shr_model.proofs.Lists.{there_at}

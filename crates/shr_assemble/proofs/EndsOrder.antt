@@ -1,3 +1,4 @@
+-- SPDX-License-Identifier: GPL-2.0-only
 -- The one order of all that the workers did, of a run whose workers are done.
 use Rattle.shr_assemble.proofs.Common.{◌≡◌, ◌≢◌, ℕ, zero, suc, ◌+◌, ◌<◌, ◌⊎◌, inl, inr, ⊎_elim, Bool, true, false, cond, List, [], ◌∷◌, ◌++◌, length, sym, refl, ap, subst, ◌∙◌, arith, eq-eqb, ne_eqb, slice_get, Option, Some, flat_map, ◌==◌, append-nil, same_Some, none-some, slice_get_within, CacheDecl, Has, map_has, flat_map_has, Deed, by_seat, part, times, Begins, begins_all, begins_more, View, last_users, last_moment, among, Event, cleared, opener, Shared, WorkerState, CrewState, Ends, EntersIf, AreEntered, is_on, place_number, Report, journals_of, WorkerLog, AreEndsOf, firsts_at_start, new_worker, with_workers, IsMadeOf, Step, IsAmong, steps_of, AreStepsChained, worker_state_after, at_some, AreEvents, ids_of, part-append, cleared_in}
 use Rattle.shr_lawful.proofs.LineParts.{part_has}

@@ -1,3 +1,4 @@
+-- SPDX-License-Identifier: GPL-2.0-only
 -- The journals that are printed, by the numbers of their places.
 use Rattle.shr_assemble.proofs.Common.{◌≡◌, ℕ, zero, suc, ◌<◌, ◌≤◌, ◌≢◌, ◌⊎◌, inl, inr, ⊎_elim, Bool, true, false, cond, List, [], ◌∷◌, ◌++◌, map, length, sym, refl, ap, subst, ◌∙◌, arith, Option, Some, None, find, dite, ℕ_discrete, some-injective, some-ne-none, Object, Place, PlaceEnd, Entry, place_number, is_place, is_place_same, is_place_itself, place_at, EndValue, end_value, place_ends, back, journal_of, IsAmong, find_back, find_front, ◌+◌, slice_get, AllByRecursion, same_Some, none-some, UseStep, total, only, some_term, only_yes, only_no, at_some}
 use Rattle.shr_core.specs.Ending.{ends_below}

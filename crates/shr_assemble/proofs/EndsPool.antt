@@ -1,3 +1,4 @@
+-- SPDX-License-Identifier: GPL-2.0-only
 -- The journal of registrations and the lookups, of a run whose workers are done.
 use Rattle.shr_assemble.proofs.Common.{◌≡◌, ℕ, ◌<◌, Bool, cond, List, length, get_or, sym, ap, subst, ◌∙◌, arith, ◌&&◌, nat_lt, nat_le, le-leb, PoolEntry, IsPoolJournal, total, lookups_of, Tried, hit_attempt, Shared, Ends, Report, lookups_at, WorkerLog, AreEndsOf, IsMadeOf, all_attempts}
 use Rattle.shr_assemble.proofs.EndsGathered.{attempts_are}

@@ -1,3 +1,4 @@
+-- SPDX-License-Identifier: GPL-2.0-only
 -- The report of a run whose workers are done is laid out as its words ask.
 use Rattle.shr_assemble.proofs.Common.{◌≡◌, ℕ, zero, suc, ◌<◌, ◌≤◌, ◌^◌, inl, inr, ⊎_elim, Bool, true, false, List, [], ◌∷◌, ◌/◌, ◌%◌, length, map, cond, sym, refl, ap, subst, ◌∙◌, arith, ne_eqb, All, if◌then◌else◌, ◌==◌, filter, AllByRecursion, AllAdjacentBelow, range_with_len, eqb-true, length-map, mod-lt, MapEnd, PlaceAmount, GroupDecl, Script, PoolEntry, last_number, each_append, units_in, nodes_below, lookups_of, groups_in, is_some_amount, amount_of, deferred_word, pool_sizes, IsWithin, content_of, within_of_valid, Shared, Ends, Report, parents_of, IsPlaceBefore, IsAmountWell, IsPoolAmountWell, map_units, WorkerLog, Noted, AreEndsOf, firsts_at_start, with_workers, StandsBefore, IsMadeOf, printed_part, ArePrintedParts, IsPutTogether, IsSized, units_of, took_at, gave_at}
 use Rattle.shr_assemble.proofs.ScriptGroups.{sized_of, version_of, few_of_first}

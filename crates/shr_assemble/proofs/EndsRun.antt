@@ -1,3 +1,4 @@
+-- SPDX-License-Identifier: GPL-2.0-only
 -- A run from the ends of its tables.
 use Rattle.shr_assemble.proofs.Common.{List, Shared, Ends, Report, WorkerLog, AreEndsOf, IsMadeOf, IsRun}
 use Rattle.shr_assemble.proofs.ScriptGroups.{sized_of}

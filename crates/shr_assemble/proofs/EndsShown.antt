@@ -1,3 +1,4 @@
+-- SPDX-License-Identifier: GPL-2.0-only
 -- What a worker has made, seen and knows after a step is so in the report, of a run whose workers are done.
 use Rattle.shr_assemble.proofs.Common.{◌≡◌, ℕ, ◌+◌, ◌*◌, ◌/◌, ◌<◌, ◌≤◌, List, length, sym, ap, subst, ◌∙◌, arith, eq-eqb, slice_get, bit_at, eqb-true, slice_get_within, PoolEntry, place_number, unit_of, bit_of, decl_at, registrations, Each, times, Begins, View, place_at, map_number, map_of, IsLeft, Made, Known, Counted, Tried, IsTurn, Shared, IsShared, Report, parents_of, journals_of, items_before, IsThere, Step, StandsIn, IsMapOf, all_cleared, all_sets, at_some}
 use Rattle.shr_assemble.proofs.ScriptGroups.{sized_of}

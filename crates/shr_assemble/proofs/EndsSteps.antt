@@ -1,3 +1,4 @@
+-- SPDX-License-Identifier: GPL-2.0-only
 -- The steps of a run whose workers are done: each worker's are its commands with the report's answers, from the first state on.
 use Rattle.shr_assemble.proofs.Common.{◌≡◌, ℕ, ◌+◌, ◌<◌, ◌≤◌, ⊎_elim, List, [], length, sym, refl, ap, subst, ◌∙◌, arith, slice_get, Option, Some, None, IfSome, flat_map, AllByRecursion, length-map, none-some, slice_get_past, Command, Sweep, WorkerScript, content_of, within_of_valid, Shared, WorkerState, CrewState, Ends, Report, commands_of, sweeps_in, sweeps_of, answers_of, walks_of, WorkerLog, AreEndsOf, new_worker, IsMadeOf, log_answers, log_walks, log_carries, log_isolations, isolated_in, isolated_before, DidIsolations, Step, AreStepsChained, steps_in, steps_of, IsStep, IsShownIn, AreRunSteps, IsOfPops, ArePoppedOnce, all_popped, IsSweepWithin, IsNewWorker, AreIsolating, AreSwept, carries_of, isolations_of, zero, suc, ◌∷◌, ◌++◌, length-append, get_or, get_or_append_left, dite, ℕ_discrete, lookups_of, get_or-append_seam, ◌≢◌, ◌⊎◌, inl, inr, Bool, true, false, not, cond, map, eqb, ne_eqb, find, filter, PlaceAmount, Place, amount_of, is_place, Has, is_place_same, is_place_itself, is_some_amount, amount_in, decls_on, Answered}
 use Rattle.shr_model.proofs.Lists.{there_at}

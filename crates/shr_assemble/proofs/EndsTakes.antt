@@ -1,3 +1,4 @@
+-- SPDX-License-Identifier: GPL-2.0-only
 -- The moves of each worker in the line of all moves of the deferred words, of a run whose workers are done.
 use Rattle.shr_assemble.proofs.Common.{◌≡◌, ℕ, zero, suc, ◌+◌, ◌≤◌, List, [], ◌∷◌, length, sym, refl, ap, subst, ◌∙◌, arith, flat_map, slice_get, Some, same_Some, none-some, slice_get_within, dite, dec_lt, by_seat, part, Moves, Shared, WorkerState, CrewState, Ends, Report, WorkerLog, Firsts, with_workers, firsts_at_start, AreEndsOf, new_worker, IsMadeOf, Step, steps_in, steps_of, no_moves, strand_at, slice_get_past}
 use Rattle.shr_model.proofs.Lists.{there_at}

@@ -1,3 +1,4 @@
+-- SPDX-License-Identifier: GPL-2.0-only
 -- How many objects were added, freed and are listed, of a run whose workers are done.
 use Rattle.shr_assemble.proofs.Common.{◌≡◌, ℕ, suc, ◌+◌, ◌<◌, inl, inr, ⊎_elim, List, [], ◌∷◌, ◌++◌, map, length, length-append, refl, ap, ◌∙◌, arith, slice_get, Some, sum_by, length_permutation, length-map, sum_by-cons, PlaceEnd, Entry, Object, serials_of, added_by_all, added_in, listed_in, items_of, IsWhole, bag_of_legal, AreApart_of_ends, find_end, Shared, Ends, Report, parents_of, journal_of, journals_of, places_of, WorkerLog, AreEndsOf, IsMadeOf, IsPrinted, AreRunJournals, freed_in}
 use Rattle.shr_assemble.proofs.EndsGathered.{journals}

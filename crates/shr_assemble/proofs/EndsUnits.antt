@@ -1,3 +1,4 @@
+-- SPDX-License-Identifier: GPL-2.0-only
 -- What the workers did at the pools of units, of a run whose workers are done.
 use Rattle.shr_assemble.proofs.Common.{◌≡◌, ℕ, ◌<◌, ◌≤◌, ⊎_elim, List, [], ◌∷◌, ◌++◌, map, length, sym, refl, ap, subst, ◌∙◌, arith, find, filter, flat_map, slice_get, Option, Some, None, option_map, AllByRecursion, range_with_len, same_Some, none-some, slice_get_past, slice_get_within, PlaceAmount, Place, Answered, Command, amount_of, sum_at, deferred_word, is_place, Sizes, IsPlaceOf, row_of, row_count, Each, Begins, row_low, begins_all, Each-none, is_some_amount, takes_of, gives_of, takes_both, gives_both, pool_sizes, PlainState, Shared, CrewState, Ends, Report, amount_in, parents_of, journals_of, commands_in, commands_of, answers_of, serial_of, command_at, answer_at, id_found, IsOther, DidUnitsOf, UnitsStep, WorkerLog, Firsts, AreEndsOf, with_workers, firsts_at_start, IsMadeOf, log_answers, log_plain, AreRunSteps, Step, IsReplyTo, no_state, place_of_row, took_at, gave_at, plain_of, units_steps_in, units_steps_of, AreChained, last_units_state, units_made_in, IsUnitsStep, IsSeenIn, IsRoomOf, AreUnits}
 use Rattle.shr_model.proofs.Lists.{there_at}

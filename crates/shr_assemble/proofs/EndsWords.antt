@@ -1,3 +1,4 @@
+-- SPDX-License-Identifier: GPL-2.0-only
 -- The deferred words that are printed are those that the steps left, of a run whose workers are done.
 use Rattle.shr_assemble.proofs.Common.{◌≡◌, ℕ, ◌<◌, List, map, length, sym, ap, subst, ◌∙◌, find, filter, AllByRecursion, range_with_len, PlaceAmount, Place, amount_of, sum_at, deferred_word, is_place, Sizes, IsPlaceOf, row_of, row_count, is_some_amount, amounts_after, Shared, Ends, Report, amount_in, parents_of, IsThere, WorkerLog, AreEndsOf, IsMadeOf, all_gives, row_low, AreDeferred, place_of_row, took_at, gave_at}
 use Rattle.shr_deferred.specs.Left.{amounts}

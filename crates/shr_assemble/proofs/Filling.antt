@@ -1,3 +1,4 @@
+-- SPDX-License-Identifier: GPL-2.0-only
 -- Which bits a command set: those of the lists that it filled, and those that its walks set again.
 use Rattle.shr_assemble.proofs.Common.{◌≡◌, ◌⊎◌, inl, inr, ℕ, zero, suc, ◌<◌, Bool, true, false, cond, List, [], ◌∷◌, ◌++◌, length, sym, refl, ap, subst, ◌∙◌, arith, append_assoc, ◌&&◌, ◌==◌, nat_lt, flat_map, map-append, dite, ℕ_discrete, and_parts, ltb-true, some-injective, some-ne-none, Entry, Add, Scan, Object, WalkRecord, Has, step, Deed, by_seat, Each, times, only, Each-none, Each-weaker, some_term, only_no, View, Gained, Adds, among, group_of, Made, Event, raised, is_raised, bits_for, Fills, IsListFilled, IsAmong, set_by_walk, sets_in, cleared_in}
 use Rattle.shr_model.specs.Scan.{scan_from}

@@ -1,3 +1,4 @@
+-- SPDX-License-Identifier: GPL-2.0-only
 -- Registrations that begin the journal take the ids in order.
 use Rattle.shr_assemble.proofs.Common.{◌≡◌, ℕ, zero, suc, ◌%◌, ◌<◌, ◌≤◌, ◌≢◌, ⊎_elim, Bool, true, false, cond, List, [], ◌∷◌, ◌++◌, take, sym, refl, ap, subst, ◌∙◌, arith, eq-eqb, ne_eqb, Some, slice_get, nat_lt, ◌&&◌, ◌==◌, cases_lt, same_Some, none-some, dite, ℕ_discrete, PoolEntry, Registered, is_free, lowest_idle, IsPoolJournal, phase_of_push, some_at, one_of}
 use Rattle.shr_model.specs.Pool.{phase_of, lowest_free}

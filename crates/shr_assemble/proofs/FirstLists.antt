@@ -1,3 +1,4 @@
+-- SPDX-License-Identifier: GPL-2.0-only
 -- The list on which a tenant's command acted is the first open one from its group up.
 use Rattle.shr_assemble.proofs.Common.{◌≡◌, ℕ, ◌<◌, List, length, sym, subst, Some, option_and_then, Contains, Place, group_named, IsAtOrAbove, place_number, at_group, View, Known, shape_of, KnowsClosed, IsFirstOpen, Shared, parents_of, Step, IsFirstFor}
 use Rattle.shr_assemble.proofs.QuietSteps.{AreTables, tree_is}

@@ -1,3 +1,4 @@
+-- SPDX-License-Identifier: GPL-2.0-only
 -- What a get did.
 use Rattle.shr_assemble.proofs.Common.{◌≡◌, ℕ, ◌<◌, true, false, List, length, refl, sym, ap, ◌∙◌, arith, Option, Some, None, is_some, option_map, same_Some, none-some, Object, Serial, Target, At, Entry, Look, Answered, Found, Reply, Spent, Command, On, Get, is_named, holds, named_in, marked_object, length_change_first, View, shape_of, Listed, IsObjectWithin, content_of, Shared, WorkerState, parents_of, is_past_group, is_some_find, look_entry, LookGives}
 use Rattle.shr_base.specs.declared.replies.Reply.TheVariants as reply

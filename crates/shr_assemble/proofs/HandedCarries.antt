@@ -1,3 +1,4 @@
+-- SPDX-License-Identifier: GPL-2.0-only
 -- The carries of a group's places: in order, each at a place that is there, and together what was taken.
 use Rattle.shr_assemble.proofs.Common.{◌≡◌, ℕ, zero, suc, ◌+◌, ◌<◌, ◌≤◌, inl, inr, ⊎_elim, Bool, true, false, cond, List, [], ◌∷◌, ◌++◌, length, map, refl, sym, ap, subst, ◌∙◌, arith, ◌==◌, ◌*◌, ◌/◌, ◌%◌, AllPairs, sum, sum_by, AllByRecursion, range_with_len, eqb-true, cases_lt, All-from_recursion, AllPairs-cons, sum_by-cons, PlaceAmount, Place, Serial, Carry, total, total-append, Shape, carry_noted, carries_noted, IsBefore, sum_total, above_zero, amount_taken, place_by_number}
 use Rattle.shr_offline.specs.Carries as carry

@@ -1,3 +1,4 @@
+-- SPDX-License-Identifier: GPL-2.0-only
 -- What splicing all lists of a group moved is the sum over the entries that were made.
 use Rattle.shr_assemble.proofs.Common.{◌≡◌, ℕ, suc, ◌+◌, ◌<◌, Bool, true, false, cond, List, [], ◌∷◌, length, map, refl, ap, arith, ne_eqb, ◌==◌, All, AllPairs, sum_by, slice_index_or, eqb-true, total, total-append, View, Shape, Made, Closing, made_by_closings, AreSpliced, moved_of, sum_total, IsSpliced, moved_from_group, place_by_number}
 use Rattle.shr_assemble.proofs.QuietSplices.{IsSplicedTo}

@@ -1,3 +1,4 @@
+-- SPDX-License-Identifier: GPL-2.0-only
 -- What an offline did whose call handed all over, whatever the end of it answered.
 use Rattle.shr_assemble.proofs.Common.{◌≡◌, ℕ, ◌<◌, ◌≤◌, List, [], ◌∷◌, ◌++◌, length, map, refl, sym, ap, subst, ◌∙◌, arith, true, inr, ◌*◌, ◌/◌, None, slice_get, Contains, All, sum, sum_by, ◌%◌, ◌^◌, Some, AllByRecursion, range_with_len, All-append, All-from_recursion, Contains-append_left, none-some, PlaceAmount, TreeEntry, Begin, Done, Place, Serial, Reply, Carry, Family, IsTree, given_at, Begins, Shape, View, nothing, groups_in, hierarchy_of, shape_of, gave, TreeView, Moves, both, carry_moves, carries_noted, AreSpliced, IsWithin, content_of, within_of_valid, is_made, is_made_grows, Shared, WorkerState, Work, no_work, then_work, Does, does_none, does_then, parents_of, cited_by, IsThere, MayHaveBegun, HasCarried, pool_told, pool_made, is_past_group, IsReply, Step, IsCausedBy, DidCarry, MayMakeEntry, IsEntryOf, places_offlined, TreeMade, amount_taken, place_by_number, count_of_places, all_places, length-append, take, eq-eqb, All-nil, Hierarchy, KnowsClosed, MayBegin, IsTreeJournal, place_number, group_place, Answered}
 use Rattle.shr_assemble.proofs.ScriptGroups.{sized_of}

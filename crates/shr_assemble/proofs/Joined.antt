@@ -1,3 +1,4 @@
+-- SPDX-License-Identifier: GPL-2.0-only
 -- What the first seats have once the workers' seats were joined into them, field by field.
 use Rattle.shr_assemble.proofs.Common.{◌≡◌, ℕ, List, [], ◌∷◌, ◌++◌, sym, refl, ap, ◌∙◌, append_assoc, flat_map, Option, append-nil, PlaceAmount, PoolEntry, TreeEntry, UseStep, Made, Known, Counted, Mapped, Tried, Loaded, Turn, Dated, CrewState, Firsts, with_workers, takes_of, gives_of, takes_both, gives_both, with_worker}
 use Rattle.shr_charge.specs.Views as charge

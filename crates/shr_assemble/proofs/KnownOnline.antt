@@ -1,3 +1,4 @@
+-- SPDX-License-Identifier: GPL-2.0-only
 -- What a worker doesn't know of a group it didn't know before.
 use Rattle.shr_assemble.proofs.Common.{◌≡◌, ℕ, List, sym, subst, Some, slice_index_or, slice_get-get_or, TreeEntry, begin_of, Begins, TreeView, begin_grows, KnowsOnline, LoadedState}
 use Rattle.shr_charge.specs.declared.answers.GroupState.TheVariants as state

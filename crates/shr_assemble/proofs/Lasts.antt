@@ -1,3 +1,4 @@
+-- SPDX-License-Identifier: GPL-2.0-only
 -- What holds of all that the first seats have in the end holds of what each worker had after each step.
 use Rattle.shr_assemble.proofs.Common.{◌≡◌, ℕ, zero, suc, List, [], ◌∷◌, ◌++◌, get_or, sym, subst, slice_get, Some, All, flat_map, same_Some, none-some, slice_get-get_or, Each, Begins, WorkerState, Step, IsAmong, AreStepsChained, worker_state_after, Grows, BringsWork, some_at}
 use Rattle.shr_lawful.proofs.Gathering.{grows_none, grows_then, step_grows, among_right, among_flat, among_begins, each_among, after_along}

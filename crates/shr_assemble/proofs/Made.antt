@@ -1,3 +1,4 @@
+-- SPDX-License-Identifier: GPL-2.0-only
 -- The report that is put together is made of the ends of the tables and of the workers' logs.
 use Rattle.shr_assemble.proofs.Common.{◌≡◌, ℕ, zero, suc, ◌<◌, ◌≤◌, ◌⊎◌, inl, inr, ⊎_elim, List, [], ◌∷◌, length, map, take, refl, sym, ap, subst, ◌∙◌, arith, slice_get, flat_map, option_map, Option, Some, None, IsPermutation, cases_order, IsPermutation-sym, slice_get_within, same_Some, WorkerPart, UseStep, Answered, Shared, CrewState, IsWorkOf, Serial, Ends, Report, WorkerLog, Noted, new_worker, HelpsWith, log_answers, log_walks, log_carries, log_plain, log_isolations, IsMadeOf, printed_part, ArePrintedParts, AreUsesSorted, AreEnds, IsPutTogether, Sweep, SweepItem, worker_commands, command_serial}
 use Rattle.std.proofs.lemmas.Option.{slice_get-map}

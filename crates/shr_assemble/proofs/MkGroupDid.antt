@@ -1,3 +1,4 @@
+-- SPDX-License-Identifier: GPL-2.0-only
 -- What a mkgroup did.
 use Rattle.shr_assemble.proofs.Common.{◌≡◌, ℕ, ◌≤◌, Bool, not, ◌||◌, inr, false, true, List, [], ◌∷◌, length, length-append, Option, refl, sym, ap, subst, ◌∙◌, arith, Some, None, All, All-nil, All-from_recursion, none-some, same_Some, TreeEntry, Serial, Answered, Reply, Command, Family, Hierarchy, parent_of, is_later, begin_of, is_made, hierarchy_of, shape_of, gave, IsNamed, TreeView, Shared, WorkerState, unfound, parents_of, cited_by, pool_told, pool_made, made_shown, IsReply, Step, IsCausedBy, IsEntryOf, KnowsUnmade, MeetsGroups, MakeTells, MakeLeaves, KnowsTree, made_new, make_reply, made_of, TreeMade, LoadedState}
 use Rattle.std.specs.Option.{is_some}

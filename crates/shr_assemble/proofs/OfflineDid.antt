@@ -1,3 +1,4 @@
+-- SPDX-License-Identifier: GPL-2.0-only
 -- What an offline did.
 use Rattle.shr_assemble.proofs.Common.{◌≡◌, ◌⊎◌, inl, inr, ⊎_elim, ℕ, zero, suc, ◌<◌, ◌≤◌, Bool, true, false, not, ◌||◌, List, [], ◌∷◌, length, length-append, refl, sym, ap, subst, ◌∙◌, arith, Some, None, slice_index_or, Contains, All, slice_get, sum_by, AllByRecursion, sum_by-cons, All-nil, All-append, All-from_recursion, none-some, same_Some, TreeEntry, Begin, Done, Serial, Answered, Reply, Command, Family, begin_of, is_made, undone_child, IsTreeJournal, Begins, shape_of, Entry, born_below, freed_by, View, ◌*◌, ◌/◌, ◌%◌, range_with_len, Place, Spent, Hierarchy, is_later, IsTree, is_child, parent_of, place_number, IsAtOrAbove-le, Shape, groups_in, hierarchy_of, Closing, AreClosings, group_place, AreSpliced, IsWithin, content_of, within_of_valid, GroupState, is_there, IsListWorn, nothing, MayHaveBegun, added_below, made_freed_below, MayMakeEntry, IsClosedByOffline, begin_at, begun_before, done_at, done_found, begin_found, gave, IsNamed, TreeView, begin_grows, begun_made, is_made_grows, unfound, Shared, WorkerState, Work, no_work, then_work, Does, does_none, does_then, parents_of, cited_by, pool_told, pool_made, is_past_group, IsReply, Step, IsAmong, IsCausedBy, KnowsOnline, IsEntryOf, MeetsGroups, KnowsUnmade, Contains-push, child_again, WasState, offline_reply, done_of, made_of, place_by_number, first_places, AllGives, TreeMade, LoadedState, no_test}
 use Rattle.std.specs.Option.{is_some}

@@ -1,3 +1,4 @@
+-- SPDX-License-Identifier: GPL-2.0-only
 -- The entries by which the caches that are on were registered, in order.
 use Rattle.shr_assemble.proofs.Common.{◌≡◌, ℕ, zero, suc, ◌+◌, ◌<◌, ◌≤◌, ◌⊎◌, inl, inr, ⊎_elim, Bool, true, false, cond, List, [], ◌∷◌, ◌++◌, length, length-append, append_assoc, sym, refl, ap, subst, ◌∙◌, arith, slice_get, Some, None, filter_map, enumerate_from, cons_option, append-nil, same_Some, none-some, slice_get_within, PoolEntry, Registered, CacheDecl, View, Turn, opener, Enters, EntersIf, AreEntered, is_on}
 use Rattle.shr_assemble.proofs.RisingTurns.{AreUp, up_push}

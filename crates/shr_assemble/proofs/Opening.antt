@@ -1,3 +1,4 @@
+-- SPDX-License-Identifier: GPL-2.0-only
 -- What the first seats have once the caches that are on were registered: entries of the journal of registrations, and nothing
 -- else.
 use Rattle.shr_assemble.proofs.Common.{◌≡◌, ℕ, zero, suc, ◌+◌, ◌<◌, ◌≤◌, Bool, true, false, cond, List, [], ◌∷◌, length, length-append, sym, refl, ap, subst, ◌∙◌, arith, slice_get, Option, Some, None, filter_map, enumerate_from, cons_option, append-nil, PoolEntry, Registered, CacheDecl, times, View, opener, Enters, EntersIf, AreEntered, is_on}

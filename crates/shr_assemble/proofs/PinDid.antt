@@ -1,3 +1,4 @@
+-- SPDX-License-Identifier: GPL-2.0-only
 -- What a set_pin did.
 use Rattle.shr_assemble.proofs.Common.{◌≡◌, ℕ, ◌<◌, Bool, true, false, List, length, refl, ap, arith, Option, Some, None, Object, Serial, Target, At, Entry, Pin, Answered, Found, Reply, Spent, Command, On, SetPin, is_named, holds, pinned_object, length_change_first, View, shape_of, Listed, IsObjectWithin, content_of, Shared, WorkerState, parents_of, is_past_group, same_Some, none-some, pin_entry}
 use Rattle.shr_base.specs.declared.replies.Reply.TheVariants as reply

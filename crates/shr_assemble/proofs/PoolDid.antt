@@ -1,3 +1,4 @@
+-- SPDX-License-Identifier: GPL-2.0-only
 -- What a release and a grab did at the tables of the caches: nothing.
 use Rattle.shr_assemble.proofs.Common.{◌≡◌, ℕ, [], refl, sym, subst, Some, None, none-some, Place, Serial, Answered, Reply, Spent, Command, Release, Grab, Script, Family, GrabAnswer, ReleaseAnswer, PlainState, Shared, WorkerState, no_work, CrewState, DeedGives, worker_units_place, unfound, pool_told, pool_made, made_shown, parents_of, cited_by, IsReply, IsCausedBy, units_room, release_reply, grab_reply}
 use Rattle.shr_base.specs.declared.replies.Reply.TheVariants as reply

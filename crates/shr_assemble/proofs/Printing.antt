@@ -1,3 +1,4 @@
+-- SPDX-License-Identifier: GPL-2.0-only
 -- Which part is the last that has an answer.
 use Rattle.shr_assemble.proofs.Common.{◌≡◌, ℕ, zero, suc, ◌+◌, ◌<◌, ◌≤◌, ⊎_elim, List, [], ◌∷◌, length, take, refl, sym, ap, subst, ◌∙◌, arith, slice_get, Some, cases_order, length-take-le, slice_get_within, WorkerPart, IsLastAnswered, take_below, some_injective}
 

@@ -1,3 +1,4 @@
+-- SPDX-License-Identifier: GPL-2.0-only
 -- What a put's charge with its reclaim did, by its answer: its rounds, and its operations group by group.
 use Rattle.shr_assemble.proofs.Common.{◌≡◌, ℕ, suc, ◌-◌, ◌<◌, ◌≤◌, inl, inr, ⊎_elim, List, [], ◌∷◌, ◌++◌, length, length-append, map, take, drop, sym, refl, ap, subst, ◌∙◌, arith, append_assoc, slice_get, Some, AllByRecursion, append-nil, length-map, take-append-drop, map-append, Serial, Answered, Command, round_of, IsAtOrAbove, Job, job_of, Begins, parents_of, WorkerState, Work, no_work, then_work, Shared, Admission, Charged, Over, Memory, AreRoundsCut, AdmissionGives, Visit, Round, job_in, VisitHadMemory, due_in, refused, in_take, by_slices, all_push, ◌+◌, true, false, WalkRecord, path_of, Each-none, Refusal, Bool, not, cond, count_by, sum_by, pos, ◌-ℤ◌, ints, sum_by-append, UseStep, ups, downs, is_refused, AreDowns, IsDown, charged, limit_of, times_of, nets_downs, DidCharges, ops_at, added_below, made_freed_below, Made, Step, IsPut, each_append, each_weaker, all_slice_by}
 use Rattle.shr_model.specs.Commands.{rounds_from}

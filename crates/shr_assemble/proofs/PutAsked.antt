@@ -1,3 +1,4 @@
+-- SPDX-License-Identifier: GPL-2.0-only
 -- A put that asked for its charge, or didn't: what is left to say of its answer.
 use Rattle.shr_assemble.proofs.Common.{◌≡◌, ◌⊎◌, ⊎_elim, inl, inr, ℕ, ◌<◌, ◌≤◌, List, [], ◌∷◌, ◌++◌, length, map, refl, sym, ap, subst, ◌∙◌, arith, true, false, cond, Bool, ◌-◌, Some, None, sum_by, replicate, is_some, AllByRecursion, append-nil, sum_by-append, same_Some, none-some, UseStep, At, Serial, Target, Answered, Found, Reply, Command, Put, Family, IsAtOrAbove, Job, job_of, Each, Each-none, LoadsWord, Asks, AreRising, Made, hierarchy_of, GroupState, shape_of, Admission, times_of, times_both, charged, MayBeOffline, pool_seen, pool_made, pool_told, is_past_group, parents_of, cited_by, id_found, IsReply, over_at, WorkerState, Work, no_work, then_work, Does, Shared, does_none, does_then, IsCausedBy, added_below, made_freed_below, StandsIn, MayMakeEntry, IsListFilled, IsMadeAsCited, IsFoundBy, number_made, number_found, KnowsOnline, MeetsGroups, Step, BringsWork, IsAmong, IsWant, refusals_of, was_charged, is_at_or_above, DidRounds, LoadedState, append_assoc, cons_option, ScanMade, Moves, takes_of, gives_of, Uncharges, Loaded, scans_made}
 use Rattle.shr_base.specs.declared.replies.Reply.TheVariants as reply

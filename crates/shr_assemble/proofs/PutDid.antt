@@ -1,3 +1,4 @@
+-- SPDX-License-Identifier: GPL-2.0-only
 -- What a put did.
 use Rattle.shr_assemble.proofs.Common.{◌≡◌, ℕ, ◌+◌, ◌<◌, inl, inr, Bool, true, false, ◌&&◌, not, cond, ◌==◌, List, [], ◌∷◌, ◌++◌, length, refl, sym, ap, subst, ◌∙◌, arith, Option, Some, None, nat_lt, if◌then◌else◌, Entry, Add, Object, At, Place, Serial, Target, Answered, Found, Reply, Command, Put, is_at_or_above, path_of, is_later, Hierarchy, step, fresh, holds, place_number, times, only, total, total-append, only_yes, AreRising, spent_by, View, group_of, Made, shape_of, add_entry, Listed, AddGives, is_raised, bits_for, times_of, parents_of, IsObjectWithin, content_of, WorkerState, Work, no_work, Does, Shared, does_none, unfound, same_Some, none-some, hierarchy_of, added_below, KnowsUnmade, IsAmong, Step, Puts, PutFrom, PutNone, PutAs, CommandGives}
 use Rattle.std.proofs.Common.{lt-ltb}

@@ -1,3 +1,4 @@
+-- SPDX-License-Identifier: GPL-2.0-only
 -- A put whose cache was found after its charge: with the entry that it cites, or with none.
 use Rattle.shr_assemble.proofs.Common.{◌≡◌, ℕ, ◌<◌, ◌≤◌, List, [], ◌∷◌, ◌++◌, length, map, refl, sym, ap, subst, ◌∙◌, arith, false, true, cond, Bool, Some, None, sum_by, sum_by-append, same_Some, none-some, Entry, Object, At, Serial, Target, Answered, Found, Reply, Command, rounds_from, Family, job_of, place_number, Each, times, Each-none, HoldsCache, Calls, Asks, View, place_at, Made, Known, shape_of, Listed, Acts, Gains, times_of, charged, pool_told, pool_made, parents_of, cited_by, IsReply, Cites, over_at, WorkerState, Work, then_work, Shared, IsCausedBy, added_below, IsTenantEntry, MayMakeEntry, IsSetLast, IsListFilled, IsMadeAsCited, IsFoundBy, number_made, Step, IsAmong, BringsWork, refusals_of, was_charged, append-nil, each_before, each_one, IsWant, StandsIn}
 use Rattle.shr_base.specs.declared.replies.Reply.TheVariants as reply

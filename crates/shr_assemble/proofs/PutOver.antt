@@ -1,3 +1,4 @@
+-- SPDX-License-Identifier: GPL-2.0-only
 -- A put that was refused at last: the last up of its operations, which its answer names.
 use Rattle.shr_assemble.proofs.Common.{◌≡◌, ◌⊎◌, inl, inr, ℕ, ◌-◌, ◌<◌, ◌≤◌, Bool, true, false, cond, List, [], ◌∷◌, ◌++◌, pos, refl, sym, ap, subst, ◌∙◌, arith, Option, Some, None, option_and_then, filter, nat_lt, AllByRecursion, IsSomeAnd, nat_tests, ints, dite, ℕ_discrete, UseStep, Serial, ups, IsBelow, group_named, IsAtOrAbove, AreRising, IsLaterThan, Uses, parents_of, limit_of, WorkerState, Work, Does, Shared, Refusal, count_first, IsOverBy, ops_at, Step, IsAmong, each_append, each_weaker, ◌<ℤ◌}
 use Rattle.shr_lawful.proofs.Gathering.{among_right}

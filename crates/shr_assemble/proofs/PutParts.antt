@@ -1,3 +1,4 @@
+-- SPDX-License-Identifier: GPL-2.0-only
 -- A put's parts: what its tries and walks made first, and then what its cache's list made.
 use Rattle.shr_assemble.proofs.Common.{◌≡◌, ℕ, ◌+◌, ◌<◌, ◌⊎◌, inl, cond, List, [], ◌++◌, length, map, refl, sym, ap, subst, ◌∙◌, arith, true, false, slice_get, Some, flat_map, sum_by, All, AllPairs, append-nil, map-append, All-nil, filter_map-append, Entry, Scan, At, Place, Serial, Answered, Found, Command, Script, Carry, PassRecord, WalkRecord, decl_named, asks_online, jobs_of, sum_at, Family, is_below, is_place, job_of, passes_at, is_cut, takes_of, gives_of, takes_both, gives_both, Each, Begins, Each-append, Made, Mapped, AreFresh, WorkerState, Work, then_work, MayBeOffline, pool_seen, pool_made, parents_of, cited_by, id_found, IsReply, IsBefore, scan_made, scans_made, IsCausedBy, DidCharges, DidCarry, StandsIn, MayMakeEntry, IsListFilled, IsMadeAsCited, IsFoundBy, number_made, numbers_tried, number_found, KnowsOnline, MeetsGroups, Step, BringsWork, DidRoundsOf, counted_in, mapped_in, cleared_by_walk, set_by_walk, map_word, steps_walked, told_step, IsWant, slice_left}
 use Rattle.shr_charge.specs.Views as charge

@@ -1,3 +1,4 @@
+-- SPDX-License-Identifier: GPL-2.0-only
 -- The tries of a put's charge and the walks between them: their jobs and their operations.
 use Rattle.shr_assemble.proofs.Common.{false, ◌≡◌, ℕ, ◌-◌, ◌<◌, List, [], ◌∷◌, ◌++◌, length, map, sym, refl, ap, subst, ◌∙◌, flat_map, Some, AllByRecursion, range_with_len, map-append, Serial, Answered, Command, UseStep, round_of, IsTree, IsAtOrAbove, preorder_of, job, job_of, Has_from_Contains, ChargeAnswer, ChargeOps, shape_of, parents_of, Groups, HadMemory, WorkerState, Work, then_work, Shared, Visit, Round, job_in, VisitHadMemory, due_in, AreRounds, TriesInRounds, IsChargeTried, charge_work, by_slices, preorder_of-on, refused_above, ◌+◌, arith, append_assoc, pos, IsDown, Refusal, over_of, kept_of, each_weaker, IsOverLimit}
 use Rattle.shr_model.specs.Commands.{rounds_from}

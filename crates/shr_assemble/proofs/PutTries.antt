@@ -1,3 +1,4 @@
+-- SPDX-License-Identifier: GPL-2.0-only
 -- The operations of a put's tries and walks, group by group.
 use Rattle.shr_assemble.proofs.Common.{◌≡◌, ℕ, zero, suc, ◌+◌, ◌-◌, ◌<◌, ◌≤◌, ◌&&◌, Bool, true, false, not, cond, ◌==◌, List, [], ◌∷◌, ◌++◌, length, length-append, map, refl, sym, ap, subst, ◌∙◌, arith, append_assoc, eq-eqb, ne_eqb, Option, None, option_and_then, slice_get, slice_index_or, count_by, sum_by, pos, ◌-ℤ◌, Some, replicate, AllByRecursion, ints, append-nil, sum_by-append, dite, ℕ_discrete, UseStep, Object, Serial, Answered, Register, WalkRecord, ups, downs, is_refused, IsBelow, is_at_or_above, IsTree, path_of, IsOn, by_parents, on_self, on_le, Each, ChargeAnswer, ChargeOps, IsDown, path_to, way_here, way_root, way_up, parents_of, limits_of, limit_of, Groups, objects_freed, WorkerState, Work, then_work, Shared, charge_work, times_of, times_both, nets_downs, over_of, kept_of, way_once, refused_on, DidCharges, ops_at, made_freed_below, each_append, each_weaker, way_whole, nets_refused, nets_charged, way_few, IsUp, use_group, refused_closes}
 use Rattle.shr_charge.specs.declared.answers.ChargeAnswer.TheVariants as charge

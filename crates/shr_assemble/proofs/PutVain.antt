@@ -1,3 +1,4 @@
+-- SPDX-License-Identifier: GPL-2.0-only
 -- A put that was not added after its charge, which was taken back.
 use Rattle.shr_assemble.proofs.Common.{◌≡◌, ℕ, ◌+◌, ◌<◌, ◌≤◌, inl, inr, Bool, true, false, not, ◌==◌, List, [], ◌∷◌, ◌++◌, length, length-append, map, refl, sym, ap, subst, ◌∙◌, arith, Some, None, sum_by, if◌then◌else◌, append-nil, append_cancel_left, none-some, Entry, Add, Object, At, Serial, Target, Answered, Found, Reply, Spent, Command, fresh, holds, rounds_from, is_live_decl, job_of, Each, Each-none, View, nothing, Adds, Made, Loaded, shape_of, add_entry, Listed, AddGives, parents_of, WorkerState, Work, then_work, Does, Shared, added_below, made_freed_below, MayMakeEntry, IsListFilled, Step, PutsInVain, HoldsCache, Calls, Gains, Uncharges, Asks, Family, over_at, refusals_of, was_charged, charged, pool_told, pool_made, pool_seen, cited_by, IsReply, IsCausedBy, cond, scans_made, take_all}
 use Rattle.shr_base.specs.declared.replies.Reply.TheVariants as reply

@@ -1,3 +1,4 @@
+-- SPDX-License-Identifier: GPL-2.0-only
 -- The operations of a command in one group: each up is followed by a down, or is the last one and found room.
 use Rattle.shr_assemble.proofs.Common.{◌≡◌, ℕ, zero, suc, ◌+◌, ◌<◌, ◌≤◌, ◌&&◌, Bool, true, false, not, cond, ◌==◌, List, [], ◌∷◌, ◌++◌, length, drop, map, refl, sym, ap, subst, ◌∙◌, arith, eqb-true, slice_get, Option, Some, count_by, MatchOption, find, AllByRecursion, same_Some, none-some, slice_get_within, slice_get-get_or, dite, ℕ_discrete, UseStep, Serial, ups, downs, is_by, is_refused, IsBelow, IsDownNext, AreTakenBack, times_of, count_first, IsDownBetween, ops_at, use_group, ups_at, downs_at, Closes}
 use Rattle.shr_model.proofs.PoolLaws.{and_false}

@@ -1,3 +1,4 @@
+-- SPDX-License-Identifier: GPL-2.0-only
 -- What carrying a group's deferred work took and gave, by what was noted of it.
 use Rattle.shr_assemble.proofs.Common.{◌≡◌, ℕ, ◌+◌, ◌<◌, Bool, true, false, cond, ◌==◌, ◌&&◌, List, [], ◌∷◌, ◌++◌, map, length, refl, sym, ap, ◌∙◌, arith, eqb, eq-eqb, ne_eqb, sum_by, flat_map, map-append, AllByRecursion, eqb-true, lt-ltb, dite, ℕ_discrete, parent_of, is_child, PlaceAmount, Place, Serial, Carry, sum_at, amount_at, given_at, taken_at, is_below, is_place, total, total-append, Shape, amount_of, takes_of, gives_of, takes_both, gives_both, Script, parents_of, WordStep, steps_handed, told_step, carry_moves, carry_noted, carries_noted, sum_total, above_of, took, place_of_parent}
 use Rattle.shr_deferred.specs.Moves.{gave}

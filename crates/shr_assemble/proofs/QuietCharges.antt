@@ -1,3 +1,4 @@
+-- SPDX-License-Identifier: GPL-2.0-only
 -- What a command charged that made uncharges alone, one of each of some objects.
 use Rattle.shr_assemble.proofs.Common.{◌≡◌, ℕ, ◌+◌, ◌<◌, ◌≤◌, pos, ◌-ℤ◌, Bool, true, false, cond, ◌==◌, ◌||◌, List, [], length, refl, sym, ap, subst, ◌∙◌, arith, Some, None, slice_index_or, sum_by, nat_le, AllByRecursion, length-map, All-from_recursion, UseStep, Object, Serial, Script, ups, downs, born_below, IsTree, Made, AreDowns, Spent, spent_by, Uses, Shared, WorkerState, Work, no_work, Does, does_none, Uncharges, paths_of, parents_of, charged, Step, DidCharges, ops_at, added_below, made_freed_below, use_group, ◌⊎◌, inl, inr, none-some, Reply, Command, asks_online, Family, cited_by, MayBeOffline, pool_told, pool_made, IsReply, IsCausedBy, KnowsOnline, MeetsGroups, leb-true, AreChargesWorn, AreRising, ◌^◌, count_by, all_slice_by}
 use Rattle.shr_base.specs.declared.replies.Spent.TheVariants as spent

@@ -1,3 +1,4 @@
+-- SPDX-License-Identifier: GPL-2.0-only
 -- The entries that splicing a group's lists made.
 use Rattle.shr_assemble.proofs.Common.{◌≡◌, ◌⊎◌, inl, inr, ⊎_elim, ℕ, suc, ◌<◌, ◌≤◌, Bool, true, false, cond, List, [], ◌∷◌, ◌++◌, length, refl, sym, subst, arith, map, ◌&&◌, nat_lt, ltb-true, AllByRecursion, append-nil, MovedIn, Closed, IsTree, IsAtOrAbove, parent_of, Each, Begins, at_begins, Each-none, Each-append, View, Shape, nothing, Adds, group_of, beside, Made, Known, groups_in, adds_then, Closing, made_by_closings, AreClosings, AreSpliced, IsListFilled, IsAmong, each_append, adds_none, made_by_closing, bits_by, above_place, bits_of_closings, own_number, IsClosing, place_by_number, ◌+◌, ap, ◌∙◌, eq-eqb, sum_by, and_from, Object, Serial, Drained, is_serial, is_at_or_above, born_below, total, total-append, place_id, place_number, group_place, Draw, made_from, drawn_from, drained_by, added_below, made_freed_below, at_some, count_total, sum_total, made_by_draws, drawn, all_slice_by}
 use Rattle.shr_assemble.proofs.Filling.{filled_one, filled_among}

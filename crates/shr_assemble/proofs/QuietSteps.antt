@@ -1,3 +1,4 @@
+-- SPDX-License-Identifier: GPL-2.0-only
 -- The parts of what a command did that are empty, and what each step of a tenant's command adds to its worker's state.
 use Rattle.shr_assemble.proofs.Common.{◌≡◌, ℕ, ◌<◌, ◌≤◌, pos, ◌-ℤ◌, Bool, true, false, cond, List, [], ◌∷◌, ◌++◌, inl, length, refl, sym, ap, subst, ◌∙◌, arith, ◌⊎◌, slice_get, Option, Some, None, option_and_then, map, flat_map, sum_by, All, AllPairs, AllByRecursion, list_any, IsSomeAnd, All-nil, none-some, same_Some, UseStep, Serial, Answered, Reply, Command, Put, Shrink, Balance, Script, Carry, WalkRecord, asks_online, jobs_of, sum_at, ups, usage_after, given_at, taken_at, Job, job_of, is_cut, Moves, takes_of, gives_of, Each, Begins, Each-none, Made, Mapped, Turn, WorkerState, Work, AreFresh, parents_of, charged, MayBeOffline, made_shown, pool_seen, pool_made, group_met, steps_walked, IsToldBy, IsBefore, AreNotFalling, Step, BringsWork, IsPut, DidRoundsOf, AreWalksFor, counted_in, mapped_in, cleared_by_walk, map_word, DidCharges, ops_at, added_below, made_freed_below, DidMoves, DidCarry, told_step, DidPool, IsTurnOf, IsEntryOf, KnowsOnline, MeetsGroups, Did, IsFreshAt, DidWalks, DidTree, IsUnmadeBy, MayMake, DidEntries, DidLookups, IsCausedBy, ◌^◌, take, slice_index_or, Contains, append-nil, PoolEntry, Found, is_live, decl_of, from_of, View, Gained, nothing, Adds, Hierarchy, hierarchy_of, shape_of, with_put, is_made, is_there, GroupState, TreeView, Gains, Shared, IsShared, no_work, then_work, Does, does_none, does_then, adds_put, Groups, LoadsWord, OnCache, IsAmong, IsFoundBy, KnowsUnmade, All-contains_itself, Shows, LoadedState, no_test, take_all, Calls, HoldsCache, IsSized}
 use Rattle.shr_base.specs.declared.replies.Reply.TheVariants as reply

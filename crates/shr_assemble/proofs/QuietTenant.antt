@@ -1,3 +1,4 @@
+-- SPDX-License-Identifier: GPL-2.0-only
 -- What the commands on objects share: those that were refused before their list call, and those that called a list.
 use Rattle.shr_assemble.proofs.Common.{Option, ◌≡◌, ℕ, List, ◌++◌, ap, ◌∙◌, arith, append_assoc, UseStep, begins_more, Uses, both_uses, adds_then, both, WorkerState, Work, then_work, Does, BringsWork, moves_assoc, ◌<◌, ◌≤◌, ◌⊎◌, inl, inr, ⊎_elim, [], ◌∷◌, length, refl, sym, subst, true, Some, None, option_and_then, slice_get, map, flat_map, same_Some, none-some, get_elem?, length-map, append_cancel_left, sum_by-cons, At, Place, Serial, Entry, Answered, Found, Reply, Spent, Command, Release, Grab, Script, group_named, decl_named, asks_online, Family, items_at, Object, IsAtOrAbove, is_later, Hierarchy, step, place_number, is_live_decl, IsAtOrAbove-le, Each, times, Begins, Each-none, View, Gained, nothing, Adds, place_at, Made, Known, Loaded, hierarchy_of, shape_of, place_back, Listed, Acts, TenantIsWorn, Gains, bits_for, IsFirstOpen, entry_made, IsWithin, content_of, within_of_valid, GroupState, is_there, Shared, does_then, LoadsWord, OnCache, parents_of, cited_by, id_found, at, IsThere, charged, pool_told, pool_made, made_shown, IsReply, Cites, group_met, Step, IsAmong, IsReplyTo, StandsIn, IsTenantEntry, MayMakeEntry, IsSetLast, IsListFilled, IsMadeAsCited, DidEntries, IsFoundBy, number_made, numbers_tried, number_found, IsCausedBy, IsUsedUpBy, made_freed_below, added_below, KnowsOnline, MeetsGroups, KnowsUnmade, IsWornBy, IsListWorn, IsOneMore, AreBoth, each_before, each_one, IsGroup, MissesCache, RefusedAs, DidLookups, take_all, HoldsCache, Calls}
 use Rattle.shr_assemble.proofs.ScriptGroups.{sized_of}

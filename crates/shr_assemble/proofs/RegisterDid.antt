@@ -1,3 +1,4 @@
+-- SPDX-License-Identifier: GPL-2.0-only
 -- What a register did.
 use Rattle.shr_assemble.proofs.Common.{◌≡◌, ℕ, ◌+◌, ◌≤◌, true, false, List, [], ◌∷◌, length, length-append, take, refl, sym, ap, subst, ◌∙◌, arith, None, none-some, PoolEntry, Registered, Serial, Answered, Reply, Command, Family, is_live_decl, lowest_idle, nothing, Adds, Loaded, Turn, shape_of, Shared, WorkerState, Work, unfound, parents_of, cited_by, IsReply, is_past_group, Step, IsCausedBy, DidPool, IsTurnOf, each_one, register_reply, take_all}
 use Rattle.shr_base.specs.declared.replies.Reply.TheVariants as reply

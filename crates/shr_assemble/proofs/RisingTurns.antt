@@ -1,3 +1,4 @@
+-- SPDX-License-Identifier: GPL-2.0-only
 -- Entries with rising numbers that are all the entries below a bound: each has the next number.
 use Rattle.shr_assemble.proofs.Common.{◌≡◌, ℕ, zero, suc, ◌+◌, ◌<◌, ◌≤◌, ⊎_elim, List, [], ◌∷◌, ◌++◌, length, refl, ap, subst, arith, slice_get, Some, cases_lt, same_Some, none-some, dite, ℕ_discrete, total, only_no, Turn, hit_turn}
 

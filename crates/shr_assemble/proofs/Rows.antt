@@ -1,3 +1,4 @@
+-- SPDX-License-Identifier: GPL-2.0-only
 -- The steps of a worker from the states between its commands, and what they have in all.
 use Rattle.shr_assemble.proofs.Common.{◌≡◌, ℕ, ◌∙◌, refl, arith, None, AreRising, View, WorkerState, Work, new_worker, BringsWork, IsUsing, zero, suc, ◌+◌, ◌<◌, List, [], ◌∷◌, ◌++◌, length, length-append, take, sym, ap, subst, append_assoc, slice_get, Option, Some, flat_map, AllByRecursion, append-nil, same_Some, none-some, Serial, Answered, Command, Script, Sweep, WorkerScript, Isolation, IsCommandWithin, isolations_told, content_of, IsShared, Shared, CrewState, DeedGives, IsWorkOf, SweepItem, End, parents_of, Step, AreStepsChained, worker_state_after, Did, HasHelped, isolated_in, isolated_before, DidIsolations, IsOfPops, listed_commands, worker_commands, command_serial}
 use Rattle.shr_assemble.proofs.OfflineDid.{IsHandless}

@@ -1,3 +1,4 @@
+-- SPDX-License-Identifier: GPL-2.0-only
 -- The version and the sizes of a script whose tables were made, and its groups, a tree in which the parent of one that isn't later
 -- isn't later.
 use Rattle.shr_assemble.proofs.Common.{sym, subst, content_of, within_of_valid, hierarchy_of, shape_of, IsShared, Shared, IsHierarchy, ◌≡◌, ◌⊎◌, ◌≤◌, arith, length-map, GroupDecl, IsSized}

@@ -1,3 +1,4 @@
+-- SPDX-License-Identifier: GPL-2.0-only
 -- A `shrink` did what the report asks.
 use Rattle.shr_assemble.proofs.Common.{◌≡◌, ℕ, ◌<◌, inl, inr, ⊎_elim, Bool, List, [], ◌∷◌, length, map, take, sym, refl, ap, subst, ◌∙◌, arith, true, false, slice_get, Option, Some, ◌||◌, same_Some, none-some, Serial, Answered, Command, Shrink, WalkAnswer, WalkRecord, IsPrefixOf, Job, job, job_of, is_cut, parents_of, WorkerState, Work, Shared, next_walk, unfound, walk_reply, KnowsOnline, IsAmong, shrink_reply, reply_of, Shrinks, Step, DidJobs, MayBeOffline, ◌⊎◌, IsCausedBy}
 use Rattle.shr_assemble.proofs.QuietSteps.{meets_none}

@@ -1,3 +1,4 @@
+-- SPDX-License-Identifier: GPL-2.0-only
 -- Charges that are used up, and the group that refused one.
 use Rattle.shr_assemble.proofs.Common.{◌≡◌, ℕ, ◌<◌, Bool, true, false, cond, List, length, arith, Some, None, ◌||◌, nat_le, Spent, spent_by, Uses, Serial, UseStep, IsTree, on_le, Shape, refused_on, IsChargeRefused}
 use Rattle.shr_base.specs.declared.replies.Spent.TheVariants as spent

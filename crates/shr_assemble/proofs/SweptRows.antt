@@ -1,3 +1,4 @@
+-- SPDX-License-Identifier: GPL-2.0-only
 -- The steps of a worker: those of its commands, and behind them that of the sweep of a script that has one.
 use Rattle.shr_assemble.proofs.Common.{◌≡◌, ℕ, zero, suc, ◌+◌, ◌<◌, ◌≤◌, ◌⊎◌, inl, inr, ⊎_elim, List, [], ◌∷◌, ◌++◌, length, length-append, sym, refl, ap, subst, ◌∙◌, arith, slice_get, Option, Some, None, flat_map, AllByRecursion, append-nil, same_Some, none-some, slice_get_within, slice_get_past, Serial, Answered, Command, Script, Sweep, WorkerScript, Isolation, SweepItem, sweeps_in, sweeps_of, IsShared, WorkerState, Shared, CrewState, View, WorkerLog, Did, HelpsWith, HasWorked, new_worker, isolated_in, isolated_before, DidIsolations, Step, AreStepsChained, worker_state_after, BringsWork, IsOfPops, slice_cases, slice_left, worker_commands, command_serial, range_with_len, total, End, SweepJob, of_job, only_job, ArePoppedOnce, all_popped, take-append-le}
 use Rattle.shr_charge.proofs.Listing.{get_last}

@@ -1,3 +1,4 @@
+-- SPDX-License-Identifier: GPL-2.0-only
 -- What a command did at the pools of units, in the words of the law on pools.
 use Rattle.shr_assemble.proofs.Common.{◌≡◌, ℕ, ◌<◌, ◌≤◌, Bool, true, false, not, ◌&&◌, cond, List, [], ◌∷◌, length, sym, refl, ap, subst, ◌∙◌, arith, ne_eqb, Option, Some, None, ◌==◌, Place, Serial, Answered, Reply, Command, Put, On, Shrink, Balance, Offline, MkGroup, Register, Unregister, Isolate, Release, Grab, PoolDecl, Script, Family, IsCommandWithin, content_of, GrabAnswer, ReleaseAnswer, PlainState, worker_units_place, PlainGives, IsReply, IsOther, DidUnitsOf, ⊤, IsPoolCommandWithin, has_pools, is_walked, is_due, WalksIf, served, PlainJob, one_plain, plain_jobs, plain_due, units_release_reply, units_grab_reply, DidPoolWalks}
 use Rattle.shr_base.specs.declared.replies.Reply.TheVariants as reply

@@ -1,3 +1,4 @@
+-- SPDX-License-Identifier: GPL-2.0-only
 -- What each worker did at the pools of units, command by command, from the states between its commands.
 use Rattle.shr_assemble.proofs.Common.{◌≡◌, ℕ, zero, suc, List, [], ◌∷◌, length, sym, refl, ap, subst, ◌∙◌, arith, slice_get, Some, Option, None, same_Some, none-some, Serial, Answered, Command, Script, View, PlainState, Shared, CrewState, IsWorkOf, PlainGives, UnitsStep, WorkerLog, new_worker, HelpsWith, HasWorked, Sweep, SweepItem, slice_left, worker_commands, command_serial, AreChained, units_state_after}
 use Rattle.shr_assemble.proofs.Crews.{choose}

@@ -1,3 +1,4 @@
+-- SPDX-License-Identifier: GPL-2.0-only
 -- What an unregister did.
 use Rattle.shr_assemble.proofs.Common.{◌≡◌, ◌⊎◌, inl, inr, ⊎_elim, ℕ, zero, suc, ◌+◌, ◌<◌, ◌≤◌, List, [], ◌∷◌, ◌++◌, length, length-append, append_assoc, take, refl, sym, ap, subst, ◌∙◌, arith, Some, None, sum_by, AllByRecursion, none-some, some, some-injective, get_elem?, Entry, PoolEntry, Unregistered, Idle, UseStep, Object, is_past_group, added_below, made_freed_below, Place, Serial, Answered, HalfWhy, Reply, Spent, Command, Family, born_below, place_number, is_live_decl, phase_of, from_of, Each, nothing, Adds, place_id, Made, Loaded, Turn, groups_in, Shape, shape_of, AreDowns, spent_by, Draw, group_place, made_from, drawn_from, within_of_valid, content_of, IsWithin, Each-none, Each-weaker, Shared, paths_of, WorkerState, Work, no_work, does_none, unfound, parents_of, cited_by, Step, IsAmong, IsReplyTo, MayMakeEntry, Drains, DidEntries, IsCausedBy, IsWhyBy, DidPool, IsTurnOf, IsListWorn, each_one, AreNodeDraws, ended_turn, Frees, Halves, StoppedBy, UnregisterGives, unregister_reply, objects_drained, IsWorkerSpent, take_all, take-append_seam, BringsWork}
 use Rattle.shr_assemble.proofs.ScriptGroups.{sized_of}

@@ -1,3 +1,4 @@
+-- SPDX-License-Identifier: GPL-2.0-only
 -- What the visits of an isolation came to in all: entries of the list, each object that they freed uncharged, and nothing else.
 use Rattle.shr_assemble.proofs.Common.{◌≡◌, inl, inr, ⊎_elim, ℕ, ◌+◌, ◌<◌, Bool, true, false, List, [], ◌∷◌, ◌++◌, length, length-append, append_assoc, sym, refl, ap, subst, ◌∙◌, AllByRecursion, flat_map-append, append-nil, All-nil, UseStep, Object, IsolateEnd, Spent, freed_by, place_number, Has, groups_in, Each, Each-append, Each-none, View, Made, shape_of, AreDowns, AreRising, IsDown, calls_with, both_uses, Gains, entry_made, IsScanOf, objects_freed, paths_of, WorkerState, Shared, Visitor, IsAmong, Each-one, AreBorn, scan_entry, gains_none, gains_then, called_none, ScansOnce, AreVisits, AreIsolated, MeetsWorn, EndsAs, shared_parents}
 use Rattle.shr_base.specs.declared.replies.IsolateEnd.TheVariants as ending

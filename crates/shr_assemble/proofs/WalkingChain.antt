@@ -1,3 +1,4 @@
+-- SPDX-License-Identifier: GPL-2.0-only
 -- Walks over jobs, one after another, each from where the one before it ended.
 use Rattle.shr_assemble.proofs.Common.{◌≡◌, ℕ, suc, ◌+◌, ◌<◌, ◌⊎◌, inl, inr, ⊎_elim, Bool, true, false, ◌||◌, List, [], ◌∷◌, ◌++◌, length, length-append, map, sym, refl, ap, subst, ◌∙◌, arith, sum, zero, get_or, append_assoc, ◌≤◌, sum_by, Option, AllPairs, AllByRecursion, list_any, append-nil, get_or_append_left, sum_by-cons, sum-map, Object, Serial, Answered, Command, WalkAnswer, WalkRecord, Job, job, job_of, is_cut, Begins, Made, parents_of, OneGives, HadMemory, objects_freed, WorkerState, Work, no_work, then_work, does_none, Shared, Walk, Visit, job_in, AreVisited, each_append, freed_told, AreWalked, lacked_memory, walk_for}
 use Rattle.shr_base.specs.declared.walks.WalkAnswer.TheVariants as answered

@@ -1,3 +1,4 @@
+-- SPDX-License-Identifier: GPL-2.0-only
 -- The operations of walks: one down for each object freed, on each level of its birth.
 use Rattle.shr_assemble.proofs.Common.{◌≡◌, ℕ, zero, suc, ◌+◌, ◌<◌, ◌≤◌, Bool, true, false, ◌||◌, cond, List, [], ◌∷◌, length, length-append, map, sym, refl, ap, subst, ◌∙◌, arith, eq-eqb, ne_eqb, slice_get, Option, Some, pos, ◌-ℤ◌, not, ◌==◌, sum_by, count_by, All, AllByRecursion, list_any, length-map, sum_by-cons, sum_by-append, same_Some, none-some, dite, ℕ_discrete, Entry, Add, UseStep, Object, Serial, Answered, Command, WalkRecord, ups, downs, is_at_or_above, born_below, IsTree, path_of, parent_of, freed_by, path_of-root, path_of-below, Each, Made, charged, parents_of, objects_freed, paths_of, Groups, WorkerState, Work, Shared, ops_at, added_below, made_freed_below, DidCharges, each_append, each_weaker, by_slices, use_group, all_slice_by}
 use Rattle.shr_walk.specs.Keeping as keeping

@@ -1,3 +1,4 @@
+-- SPDX-License-Identifier: GPL-2.0-only
 -- A command that made walks alone did what the report asks.
 use Rattle.shr_assemble.proofs.Common.{◌≡◌, ℕ, ◌<◌, ◌≤◌, ◌⊎◌, inl, [], length, refl, sym, ap, subst, ◌∙◌, arith, cond, Option, Some, None, option_and_then, sum_by, All, AllPairs, AllByRecursion, append-nil, All-nil, none-some, Entry, Scan, Object, Place, Serial, Answered, Reply, Command, Carry, decl_named, asks_online, Family, is_below, is_place, Each, Each-none, Made, Turn, charged, MayBeOffline, pool_told, pool_made, parents_of, cited_by, AreNotFalling, IsBefore, objects_freed, WorkerState, Work, Shared, unfound, IsCausedBy, DidCarry, Did, IsReplyTo, MayMakeEntry, KnowsOnline, IsEntryOf, MeetsGroups, IsTurnOf, Step, BringsWork, AreWalksFor}
 use Rattle.shr_charge.specs.Views as charge

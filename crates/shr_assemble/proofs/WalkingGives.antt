@@ -1,3 +1,4 @@
+-- SPDX-License-Identifier: GPL-2.0-only
 -- A walk of a group or of the root, by its answer, gave what the report asks of it.
 use Rattle.shr_assemble.proofs.Common.{◌≡◌, ℕ, ◌+◌, ◌<◌, ◌⊎◌, inl, inr, ⊎_elim, Bool, true, false, List, [], ◌∷◌, ◌++◌, length, map, sym, refl, ap, subst, ◌∙◌, arith, AllByRecursion, append-nil, map-append, All-nil, All-append, flat_map-append, dite, ℕ_discrete, Kept, UseStep, Object, Serial, Answered, Command, Attempt, MapSeen, WalkAnswer, WalkRecord, path_of, freed_by, job, job_of, Rise, Gained, nothing, Made, shape_of, AreDowns, IsDown, parents_of, OneGives, objects_freed, paths_of, WorkerState, Work, no_work, then_work, Does, IsRecordOf, WalkParts, AreParts, record_of, parts_of, Shared, Walk, does_then, fresh_none, fresh_then, IsWalkSeen, hierarchy_of, GroupState, KnowsOnline, IsAmong, Option, then_gained, IsWalkNumber, IsRecord, use_group, GoesOn, WalkMade, WalkGives, RootMade, RootGives, walk_work, units_in, does_none, IsWalkOver}
 use Rattle.shr_base.specs.declared.walks.WalkAnswer.TheVariants as answered

@@ -1,3 +1,4 @@
+-- SPDX-License-Identifier: GPL-2.0-only
 -- The lists of a walk's work are those that its record tells of.
 use Rattle.shr_assemble.proofs.Common.{◌≡◌, ℕ, zero, suc, ◌+◌, ◌<◌, ◌≤◌, ⊎_elim, Bool, true, false, cond, List, [], ◌∷◌, ◌++◌, length, map, sym, refl, ap, subst, ◌∙◌, arith, eq-eqb, slice_get, Option, Some, None, flat_map, filter, filter_map, sum_by, cons_option, sum_by-cons, sum_by-append, same_Some, none-some, Policy, Place, Attempt, PassRecord, pass_of, amount_of, amount_at, sum_at, place_number, is_place, is_place_itself, takes_of, gives_of, takes_both, gives_both, Each, Each-append, Each-none, Made, IsScanOf, scan_at, IsScanMade, AreScannedBy, WalkParts, AreParts, Shared, Walk, map-append, WordStep, told_step, steps_passed, list_scan_by, place_of_walk, place_of, moves_made, Moves}
 use Rattle.std.specs.Option.{option_map_or, option_to_list}

@@ -1,3 +1,4 @@
+-- SPDX-License-Identifier: GPL-2.0-only
 -- One walk: from its record and its work to what the report asks of it.
 use Rattle.shr_assemble.proofs.Common.{◌≡◌, ℕ, zero, suc, ◌+◌, ◌<◌, ◌≤◌, ◌⊎◌, ⊎_elim, true, false, List, [], ◌∷◌, length, map, sym, refl, ap, subst, ◌∙◌, arith, slice_get, Option, Some, filter_map, sum_by, ◌&&◌, append-nil, same_Some, none-some, Kept, Entry, Scan, Policy, Answered, Spent, CacheDecl, Command, Attempt, MapSeen, PassRecord, WalkAnswer, WalkRecord, number_of, is_held, pass_of, sum_at, place_number, passes_at, Moves, takes_of, gives_of, Each, place_at, Made, shape_of, place_back, parents_of, IsThere, AreScansOf, AreFresh, IsScanOf, scan_at, AreScannedBy, WornSeen, PassSeen, IsWalkSeen, IsRecordOf, record_of, parts_of, number_in, WorkerState, Work, Does, Shared, Walk, IsAmong, DidPass, DidAttempt, HasMetCache, lookup_numbered, KnowsOnline, IsRecord, DidWalk, IsWornBy, told_step, Rise, place_of_walk, AreLater, AreStopped, IsWalkNumber}
 use Rattle.std.specs.Option.{is_some}

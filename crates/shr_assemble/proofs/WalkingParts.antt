@@ -1,3 +1,4 @@
+-- SPDX-License-Identifier: GPL-2.0-only
 -- The part that each attempt of a walk has in the walk's work.
 use Rattle.shr_assemble.proofs.Common.{◌≡◌, ℕ, zero, suc, ◌-◌, ◌<◌, ◌≤◌, ◌≢◌, ◌⊎◌, inl, inr, ⊎_elim, Bool, true, false, ◌&&◌, cond, List, [], ◌∷◌, ◌++◌, length, map, take, sym, refl, ap, subst, ◌∙◌, arith, ne_eqb, sum, slice_get, Option, Some, None, filter_map, ◌==◌, AllByRecursion, cons_option, append-nil, filter_map-append, sum-map, same_Some, none-some, LookupWord, Entry, Scan, UseStep, Policy, CacheDecl, Attempt, Outcome, PassRecord, number_of, is_held, place_number, ScanMade, scan_by, Each, Each-append, Each-none, Made, Loaded, Tried, AreScansOf, IsScanOf, IsScanMade, WalkParts, AreParts, Shared, Walk, IsAmong, scan_made, scans_made, Rise, cache_asks_due, place_of_walk, IsScannedBy, IsPart}
 use Rattle.std.specs.Option.{option_to_list}

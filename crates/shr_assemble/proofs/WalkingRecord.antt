@@ -1,3 +1,4 @@
+-- SPDX-License-Identifier: GPL-2.0-only
 -- What the record of a walk says by itself, outcome by outcome.
 use Rattle.shr_assemble.proofs.Common.{◌≡◌, ℕ, zero, suc, ◌+◌, ◌<◌, ◌≤◌, ◌≢◌, ⊎_elim, Bool, true, false, ◌&&◌, List, [], ◌∷◌, ◌++◌, length, length-append, map, sym, refl, ap, subst, ◌∙◌, arith, slice_get, Option, Some, None, flat_map, All, and_parts, and_from, same_Some, none-some, LookupWord, UseStep, Place, CacheDecl, Attempt, Ending, Outcome, PassRecord, WalkRecord, pass_of, due, ask_size, batch_of, total_of, place_number, Each, Each-none, Made, Loaded, Counted, IsPlaced, IsOutcomeOf, IsStopped, Rising, IsUncut, IsCutLast, Shared, Walk, lookup_numbered, slice_cases, length-replicate, FollowsArithmetic, MadeOf, due_asks, place_of_walk, counts_of_outcome, counts_seen, is_outcome_cut, is_cut_by}
 use Rattle.std.specs.Option.{option_map_or, option_to_list}

@@ -1,3 +1,4 @@
+-- SPDX-License-Identifier: GPL-2.0-only
 -- Walks after walks in one step: what holds of a part of a step's work holds of the whole.
 use Rattle.shr_assemble.proofs.Common.{◌≡◌, ℕ, suc, ◌+◌, ◌<◌, ◌≤◌, ◌≢◌, ◌⊎◌, inl, inr, ⊎_elim, Bool, true, false, cond, List, [], ◌∷◌, ◌++◌, length, length-append, map, sym, refl, ap, subst, ◌∙◌, arith, ne_eqb, slice_get, Option, Some, None, flat_map, ◌==◌, Contains, sum_by, cons_option, append-nil, map-append, filter_map-append, Contains-append_left, sum_by-append, flat_map-append, none-some, slice_get_within, Entry, Add, Scan, Place, Serial, Answered, Spent, CacheDecl, Command, Script, UseStep, Object, Attempt, PassRecord, WalkRecord, PlaceAmount, sum_at, amount_at, ScanMade, scan_by, passes_at, place_in, takes_of, gives_of, takes_both, gives_both, Each, Begins, Each-append, Each-none, begins_more, place_at, Made, Known, Mapped, Tried, Loaded, KnowsClosed, AreFresh, WorkerState, Work, no_work, then_work, Does, does_then, fresh_none, fresh_then, AreScansOf, WordStep, steps_walked, told_step, Step, IsAmong, scan_made, scans_made, DidPass, DidAttempt, numbers_tried, number_made, DidWalk, counted_in, mapped_in, cleared_by_walk, set_by_walk, map_word, KnowsOnline, KnowsList, IsOneMore, AreBoth, IsWornBy, slice_cases, slice_left}
 use Rattle.shr_base.specs.declared.replies.Spent.TheVariants as spent

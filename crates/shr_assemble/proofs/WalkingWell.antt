@@ -1,3 +1,4 @@
+-- SPDX-License-Identifier: GPL-2.0-only
 -- The record of a walk is as it must be, by how the walk went.
 use Rattle.shr_assemble.proofs.Common.{◌≡◌, ℕ, zero, suc, ◌+◌, ◌*◌, ◌<◌, ◌≤◌, List, [], ◌∷◌, ◌++◌, length, map, sym, refl, ap, subst, ◌∙◌, arith, add-one, flat_map, Contains, slice_index_or, AllByRecursion, range_with_len, map-id, length-map, get_or-range_with_len, length-range_with_len, Attempt, MapSeen, each_append, each_weaker, Rise, AreNotFalling, ids_shown, all_rise, ids_within, unit_is, units_stay, AreNumbersRising, all_front, all_push, ◌^◌, slice_get, Some, Object, PassRecord, pass_of, shape_of, parents_of, Groups, objects_freed, PassSeen, IsWalkSeen, WorkerState, Work, Shared, Walk, by_slices, some_at, place_of_walk, ◌/◌, inr, true, false, take, sum_by, filter_map, none-some, take-append_seam, Kept, WalkAnswer, IsPrefixOf, IsPlaced, IsBitWord, Rising, record_of, parts_of, IsRecord, take-map-range_with_len, IsLastOfCut, drop, Bool, inl, Option, AreTriedFirst, IsWalkOver}
 use Rattle.shr_walk.specs.Walked.{Ends}

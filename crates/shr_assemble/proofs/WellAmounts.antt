@@ -1,3 +1,4 @@
+-- SPDX-License-Identifier: GPL-2.0-only
 -- The deferred words that are printed stand in the order of their places.
 use Rattle.shr_assemble.proofs.Common.{◌≡◌, ℕ, ◌+◌, ◌*◌, ◌/◌, ◌%◌, ◌<◌, ◌≤◌, ◌^◌, ◌⊎◌, inl, inr, ⊎_elim, Bool, true, false, not, eq-eqb, List, [], ◌∷◌, length, map, sym, refl, ap, ◌∙◌, arith, filter, if◌then◌else◌, ◌==◌, AllByRecursion, AllAdjacentBelow, range_with_len, cases_order, get_or-range_with_len, length-range_with_len, get_or_from_slice_get, slice_get_within, mod-lt, PlaceAmount, amount_of, Sizes, row_count, is_some_amount, IsPlaceBefore, IsAmountWell, by_slices, mul-le-mul_right, mod-add-div', IsNumbered, place_of_row}
 use Rattle.shr_deferred.specs.Left.{amounts}

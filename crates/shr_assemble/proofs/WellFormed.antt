@@ -1,3 +1,4 @@
+-- SPDX-License-Identifier: GPL-2.0-only
 -- The report of a run is well formed.
 use Rattle.shr_assemble.proofs.Common.{◌≡◌, ℕ, suc, ◌+◌, ◌<◌, ◌≤◌, ◌^◌, ◌⊎◌, inl, inr, ⊎_elim, Bool, true, false, List, [], ◌∷◌, ◌++◌, length, length-append, map, take, get_or, sym, refl, ap, subst, ◌∙◌, arith, eq-eqb, slice_get, Some, filter, codes, All, if◌then◌else◌, ◌==◌, AllByRecursion, AllAdjacentBelow, range_with_len, length-map, length-take-le, slice_get-get_or, MapEnd, PlaceAmount, PlaceEnd, WorkerPart, UseStep, CacheDecl, GroupDecl, PoolDecl, Script, place_number, last_number, nodes_below, IsWithin, content_of, Report, uses_at, IsPlaceBefore, map_units, bit_places, IsAmountWell, IsBitWord, HasWords, IsSpelled, IsWellFormed, IsPoolAmountWell, StandsBefore, IsLastAnswered, Step, IsRun, by_slices, get_or-map, length-take, IsPoolWithin, IsUseBefore, IsPlaceWell, is_name, script_hierarchy, entered, unit_order}
 use Rattle.shr_model.specs.Paths.{is_path}

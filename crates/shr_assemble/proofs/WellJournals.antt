@@ -1,3 +1,4 @@
+-- SPDX-License-Identifier: GPL-2.0-only
 -- The numbers in the journals of registrations and of the tree have the ranges of their types.
 use Rattle.shr_assemble.proofs.Common.{◌≡◌, ℕ, zero, suc, ◌+◌, ◌-◌, ◌<◌, ◌≤◌, ◌^◌, Bool, cond, List, length, take, sym, refl, ap, subst, ◌∙◌, arith, eq-eqb, ne_eqb, slice_get, Option, Some, None, ◌==◌, AllByRecursion, take_all, slice_get_within, dite, ℕ_discrete, dec_lt, PoolEntry, Registered, Unregistered, Idle, TreeEntry, Begin, Done, phase_of, number_after, last_number, IsNextPool, IsPoolJournal, Hierarchy, begin_of, IsTreeJournal, past_none, begin_at, take_below, at_some, by_slices, some_at, take-take, number_from_push, declared_in, IsPoolNumbered, IsTreeNumbered, the_some}
 use Rattle.shr_lawful.proofs.Listed.{take_next}

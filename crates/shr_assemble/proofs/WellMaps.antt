@@ -1,3 +1,4 @@
+-- SPDX-License-Identifier: GPL-2.0-only
 -- The bit words that are printed stand by node, group and unit.
 use Rattle.shr_assemble.proofs.Common.{◌≡◌, ℕ, zero, suc, ◌+◌, ◌-◌, Bool, List, [], ◌∷◌, ◌++◌, map, sym, refl, ap, ◌∙◌, arith, ne_eqb, flat_map, if◌then◌else◌, ◌==◌, range_with_len, flat_map-append, append-nil, map-append, MapEnd, map_number, bit_places}
 use Rattle.shr_core.specs.Ending.{units_below, groups_below, nodes_below}

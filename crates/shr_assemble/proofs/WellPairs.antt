@@ -1,3 +1,4 @@
+-- SPDX-License-Identifier: GPL-2.0-only
 -- Orders of lists, by pairs and by neighbours.
 use Rattle.shr_assemble.proofs.Common.{◌≡◌, zero, suc, ◌+◌, List, [], ◌∷◌, ◌++◌, length, map, get_or, ap, subst, arith, flat_map, AllByRecursion, AllAdjacentBelow, slice_get-get_or, each_append, all_slice_by}
 use Rattle.shr_lawful.proofs.Listed.{PairsRec}

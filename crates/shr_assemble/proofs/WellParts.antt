@@ -1,3 +1,4 @@
+-- SPDX-License-Identifier: GPL-2.0-only
 -- The part of a worker in the report of a run is well formed: its walks and its carries stand in the order of its commands.
 use Rattle.shr_assemble.proofs.Common.{◌≡◌, ℕ, ◌<◌, ◌≤◌, List, [], ◌∷◌, length, map, sym, ap, subst, ◌∙◌, arith, slice_get, Option, Some, flat_map, AllByRecursion, AllAdjacentBelow, slice_get_within, WorkerPart, Serial, Answered, Script, Carry, Isolation, WalkRecord, IsWithin, content_of, Report, serial_of, LendsWord, IsBefore, AreNotFalling, IsWalkWell, DidCarry, isolated_in, Step, steps_of, IsRun, by_slices, IsCarryBefore, AreOfCommands, IsPartWell, answers_in, walks_in, carries_in, isolations_in, plain_in, plain_order}
 use Rattle.shr_base.specs.declared.walks.PlainWalk.{PlainWalk}

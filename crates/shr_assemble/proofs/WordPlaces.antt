@@ -1,3 +1,4 @@
+-- SPDX-License-Identifier: GPL-2.0-only
 -- The word of each place of a table of deferred words, by its number.
 use Rattle.shr_assemble.proofs.Common.{ℕ, ◌*◌, ◌<◌, arith, Sizes, IsPlaceOf, row_count, mul_comm, place_inside, place_of_row}
 use Rattle.shr_lawful.proofs.UnitPooling.{some_right}

@@ -1,3 +1,4 @@
+-- SPDX-License-Identifier: GPL-2.0-only
 -- What a list or the charges of a worker were told to be is so of the step in which it was told.
 use Rattle.shr_assemble.proofs.Common.{◌≡◌, ◌^◌, inl, inr, ⊎_elim, sym, subst, arith, Place, Spent, place_number, Shape, WornSeen, Script, IsThere, Step, IsAmong, IsWornBy}
 use Rattle.shr_base.specs.declared.replies.Spent.TheVariants as spent

@@ -1,3 +1,4 @@
+-- SPDX-License-Identifier: GPL-2.0-only
 -- The report of the ends of tables and of what the workers noted.
 use Rattle.std.specs.Prelude.{◌≡◌, ◌-◌, ◌<◌, ◌^◌, List, ◌∷◌, map, codes}
 use Rattle.shr_walk.specs.declared.seats.Shared.{Shared}

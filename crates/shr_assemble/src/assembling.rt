@@ -1,3 +1,4 @@
+// SPDX-License-Identifier: GPL-2.0-only
 //! The report of a run, of what its tables left and of what its workers noted.
 
 ghost use Rattle.std.specs.Prelude.{◌≡◌, ◌+◌, ◌∷◌, IfOk, codes, length, map};
@@ -145,7 +146,7 @@ fn put_together(alloc: Global, ends: Ends, noted: Noted) -> Result<Report, Memor
 /// The report of a run whose tables ended so, after these logs of its workers, in order. It is lawful for the script,
 /// faithful to the order of its workers' commands, and well formed, whatever the order of the workers' steps; what was
 /// added was freed or is listed; and each put that nothing is in the way of was added, but where there was no memory or a
-/// counter was used up. `Memory` comes for want of memory. Our own.
+/// counter was used up. `Memory` comes for want of memory.
 pub fn assemble(alloc: Global, ends: Ends, logs: Vec<WorkerLog>) -> Result<Report, Memory>
     requires { AreEnds logs.items ends }
     ensures made { IfOk result (IsMadeOf ends.script logs.items ends) }

@@ -1,3 +1,4 @@
+// SPDX-License-Identifier: GPL-2.0-only
 //! What is left of a worker once its seats were joined.
 
 use shr_base::journals::UseStep;
@@ -5,7 +6,7 @@ use shr_base::log::Log;
 use shr_base::replies::Answered;
 use shr_base::walks::{Carry, Isolation, PlainWalk, WalkRecord};
 
-/// What a worker answered and noted. Our own.
+/// What a worker answered and noted.
 #[derive(Drop)]
 pub struct WorkerLog {
     pub answers: Log<Answered>,

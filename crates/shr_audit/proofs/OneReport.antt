@@ -1,3 +1,4 @@
+-- SPDX-License-Identifier: GPL-2.0-only
 -- Bytes are the text of one report whose lists have no room to spare.
 use Rattle.shr_audit.proofs.Common.{◌≡◌, ℕ, List, [], ◌∷◌, sym, subst, ◌∙◌, Report, nothing_read, with_said}
 use Rattle.shr_model.specs.Pieces.{pieces}

@@ -1,3 +1,4 @@
+-- SPDX-License-Identifier: GPL-2.0-only
 -- Bytes spell one script whose lists have no room to spare.
 use Rattle.shr_audit.proofs.Common.{◌≡◌, ℕ, List, [], ◌∷◌, map, refl, sym, ap, subst, ◌∙◌, Script, WorkerScript, content_of, kept, IsTightScript, IsScriptOf, tight_worker, Content, IsSpelling, IsTightWorker, tight_script}
 use Rattle.std.specs.List.{AllByRecursion}

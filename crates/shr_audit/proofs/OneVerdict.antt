@@ -1,3 +1,4 @@
+-- SPDX-License-Identifier: GPL-2.0-only
 -- No two verdicts hold of the same bytes.
 use Rattle.shr_audit.proofs.Common.{◌≡◌, ◌⊎◌, inl, inr, ℕ, ◌<◌, List, refl, ap, subst, Some, arith, ◌∙◌, slice_get, sym, cases_order, Script, content_of, IsFault, Report, IsLawful, Law, Lawful, BadScript, BadReport, IsScriptOf, law_number, Holds, IsFirstBroken, HoldsOf, Unlawful, AreTextsOf}
 use Rattle.shr_base.specs.declared.ends.PlaceEnd.{PlaceEnd}

@@ -1,3 +1,4 @@
+-- SPDX-License-Identifier: GPL-2.0-only
 -- The laws are asked in the order of their numbers.
 use Rattle.shr_audit.proofs.Common.{◌≡◌, ◌⊎◌, inl, inr, ℕ, ◌<◌, ◌≤◌, refl, sym, ap, subst, ◌∙◌, arith, cases_order, Script, Report, IsLawful, Law, law_number, Holds, IsFirstBroken, ◌+◌, ◌-◌, Bool, true, false, get_or, add_comm}
 use Rattle.std.specs.Bool.{Decides}

@@ -1,3 +1,4 @@
+-- SPDX-License-Identifier: GPL-2.0-only
 -- What the laws' functions ask of a script and a report that were read.
 use Rattle.shr_audit.proofs.Common.{◌≡◌, ℕ, ◌<◌, ◌≤◌, [], map, Some, None, refl, ◌∙◌, arith, slice_get, Script, WorkerScript, content_of, few_commands, few_workers, is_tree, ◌^◌, length, Option, IsValid}
 use Rattle.std.proofs.lemmas.List.{length-map}

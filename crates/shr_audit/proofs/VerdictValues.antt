@@ -1,3 +1,4 @@
+-- SPDX-License-Identifier: GPL-2.0-only
 -- What a verdict asks, by values.
 use Rattle.shr_audit.proofs.Common.{◌≡◌, [], None, refl, arith, Script, IsFault, Report, AreRepliesLawful, kept, nothing_read, Lawful, BadScript, BadReport, IsTightScript, IsFirstBroken, HoldsOf}
 use Rattle.shr_model.specs.Pieces.{cut, pieces, joined}

@@ -1,3 +1,4 @@
+-- SPDX-License-Identifier: GPL-2.0-only
 -- What bytes that are given as a script and as a report are.
 use Rattle.std.specs.Prelude.{ℕ, List}
 use Rattle.shr_audit.specs.declared.given.Given.{Given}

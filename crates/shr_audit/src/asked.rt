@@ -1,3 +1,4 @@
+// SPDX-License-Identifier: GPL-2.0-only
 //! The laws of a report, asked in their order.
 
 ghost use Rattle.std.specs.Prelude.{IfOk, IfSome, IfNone};
@@ -21,11 +22,11 @@ use shr_audit_lists::bits::are_bits_lawful;
 use shr_audit_lists::law::are_journals_lawful;
 use shr_audit_pools::pools::are_pools_lawful;
 use shr_audit_reasons::counted::Counted;
+use shr_audit_replies::once::are_cited_once;
+use shr_audit_replies::values::are_replies_lawful;
 use shr_audit_sweep::sweep::is_sweep_lawful;
 use shr_audit_tables::deferred::is_deferred_lawful;
 use shr_audit_tables::lookups_law::are_lookups_lawful;
-use shr_audit_replies::values::are_replies_lawful;
-use shr_audit_replies::once::are_cited_once;
 use shr_audit_walks::law::are_walks_lawful;
 use shr_base::memory::Memory;
 use shr_base::scripts::Script;
@@ -91,7 +92,7 @@ fn is_held(
 }
 
 /// The first law that doesn't hold of a script and a report. None: each of the twelve holds. `Memory` is
-/// want of memory alone. Our own.
+/// want of memory alone.
 pub fn first_broken(alloc: Global, script: &Script, report: &Report) -> Result<Option<Law>, Memory>
     requires valid { IsValid (content_of script.now) }
     requires well_formed { IsWellFormed report.now }

@@ -1,3 +1,4 @@
+// SPDX-License-Identifier: GPL-2.0-only
 //! The verdict on a script and a report as bytes.
 
 ghost use Rattle.std.specs.Prelude.{IfOk};
@@ -10,7 +11,7 @@ use shr_base::memory::Memory;
 use std::alloc::Global;
 
 /// The verdict on bytes that are given as a script and as a report: of any two byte strings the one
-/// that holds of them. Want of memory alone is an error. Our own.
+/// that holds of them. Want of memory alone is an error.
 pub fn audit(alloc: Global, script: &[u8], report: &[u8]) -> Result<Verdict, Memory>
     ensures { IfOk result (λ verdict. HoldsOf script.now report.now verdict) }
 {

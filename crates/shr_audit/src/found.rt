@@ -1,3 +1,4 @@
+// SPDX-License-Identifier: GPL-2.0-only
 //! The report that has these bytes as its text.
 
 ghost use Rattle.std.specs.Prelude.{◌≡◌, IfOk, IfSome, IfNone, OnOk};
@@ -31,7 +32,7 @@ fn prints(alloc: Global, report: &Report, bytes: &[u8]) -> Result<bool, Memory>
 }
 
 /// The report that has these bytes as its text: well formed, with numbers of its types. None: there is
-/// none. Want of memory alone is an error. Our own.
+/// none. Want of memory alone is an error.
 pub fn report_of(alloc: Global, bytes: &[u8]) -> Result<Option<Report>, Memory>
     ensures some { IfOk result (λ found. IfSome found (λ r. IsReportOf bytes.now r)) }
     ensures none { IfOk result (λ found. IfNone found ((r : Report) → IsReportOf bytes.now r → ⊥)) }

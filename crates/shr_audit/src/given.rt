@@ -1,3 +1,4 @@
+// SPDX-License-Identifier: GPL-2.0-only
 //! What bytes that are given as a script and as a report are.
 
 ghost use Rattle.std.specs.Prelude.{IfOk};
@@ -12,7 +13,7 @@ use shr_laws::report::Report;
 use shr_script::read::ReadError;
 use std::alloc::Global;
 
-/// What bytes that are given as a script and as a report are. Our own.
+/// What bytes that are given as a script and as a report are.
 #[derive(Drop)]
 pub enum Given {
     /// A valid script and a report.
@@ -22,7 +23,7 @@ pub enum Given {
 }
 
 /// The script and the report that bytes are, or the verdict that they aren't. Want of memory alone is
-/// an error. Our own.
+/// an error.
 pub fn read_given(alloc: Global, script: &[u8], report: &[u8]) -> Result<Given, Memory>
     ensures { IfOk result (λ given. IsGiven script.now report.now given) }
 {

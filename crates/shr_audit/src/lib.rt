@@ -1,5 +1,6 @@
+// SPDX-License-Identifier: GPL-2.0-only
 //! What bytes say to an auditor: the script and the report that they are, and which law of a report is
-//! broken. Our own.
+//! broken.
 #![tactic(auto)]
 
 pub mod asked;

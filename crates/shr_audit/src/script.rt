@@ -1,3 +1,4 @@
+// SPDX-License-Identifier: GPL-2.0-only
 //! The script that bytes spell.
 
 ghost use Rattle.std.specs.Prelude.{◌≡◌, map, IfOk, IfErr};
@@ -40,7 +41,7 @@ fn tight_script(alloc: Global, script: Script) -> Result<Script, Memory>
 }
 
 /// The script that these bytes spell, or their first bad line and what is wrong with it. Only want of
-/// memory is answered otherwise. The lists of the script have no room to spare. Our own.
+/// memory is answered otherwise. The lists of the script have no room to spare.
 pub fn script_of(alloc: Global, bytes: &[u8]) -> Result<Script, ReadError>
     ensures found { IfOk result (λ s. IsScriptOf bytes.now s) }
     ensures fault { IfErr result (λ e. IsCause e bytes.now) }

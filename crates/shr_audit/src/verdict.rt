@@ -1,3 +1,4 @@
+// SPDX-License-Identifier: GPL-2.0-only
 //! What an auditor says.
 
 ghost use Rattle.std.specs.Prelude.{◌≡◌};
@@ -6,7 +7,7 @@ ghost use Rattle.shr_audit.specs.Verdict.{law_number};
 use shr_base::scripts::Code;
 
 /// A law of a report, in the order in which an auditor asks them. The number beside each is that of a
-/// verdict. Our own.
+/// verdict.
 #[derive(Clone, Copy, Debug, PartialEq, Eq)]
 pub enum Law {
     /// 1: each command has its answer, and each answer speaks of an entry that is there.
@@ -35,7 +36,7 @@ pub enum Law {
     Sweep,
 }
 
-/// The laws in the order in which an auditor asks them. Our own.
+/// The laws in the order in which an auditor asks them.
 pub const LAWS: [Law; 12] = [
     Law::Replies,
     Law::Journals,
@@ -52,7 +53,7 @@ pub const LAWS: [Law; 12] = [
 ];
 
 impl Law {
-    /// The number of the law in a verdict, from 1 to 12. Our own.
+    /// The number of the law in a verdict, from 1 to 12.
     pub fn number(self) -> u8
         ensures { result ≡ law_number self }
     {
@@ -74,7 +75,7 @@ impl Law {
 }
 
 /// What is said of bytes that are given as a script and as a report. Of any two byte strings one of
-/// these alone is so (`one_verdict`). Our own.
+/// these alone is so (`one_verdict`).
 #[derive(Clone, Copy, Debug, PartialEq, Eq)]
 pub enum Verdict {
     /// The script is valid, the report is one, and all laws hold of the two.

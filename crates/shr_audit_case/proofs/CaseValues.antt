@@ -1,3 +1,4 @@
+-- SPDX-License-Identifier: GPL-2.0-only
 -- A report by the index, at known values.
 use Rattle.shr_audit_case.proofs.Common.{◌≡◌, ℕ, ◌<◌, zero, suc, Bool, true, false, Option, List, [], ◌∷◌, refl, sym, ap, ◌∙◌, arith, inl, inr, Some, None, slice_get, slice_index, Place, PlaceEnd, WorkerPart, slice_get_within, IsPlaceUpTo, AreInOrder, IsFirst, IsIndexOf, comes_before, end_printed, Replayed, AreReplays, journals_in, AreFirsts, IsNewAt, IsTakenOut, on_node, AnswersInParts, EachFirst, InParts, TellsReplayed}
 use Rattle.shr_base.specs.declared.journals.Entry.TheVariants.{Closed}

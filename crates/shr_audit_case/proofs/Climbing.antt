@@ -1,3 +1,4 @@
+-- SPDX-License-Identifier: GPL-2.0-only
 -- The groups from the last to the root: the lists that are ready, and what was told.
 use Rattle.shr_audit_case.proofs.ReplayCommon.{◌≡◌, ◌≢◌, ℕ, ◌+◌, ◌<◌, ◌≤◌, Bool, true, false, cond, List, [], ◌∷◌, ◌++◌, length, set, refl, sym, ap, ◌∙◌, subst, ◌⊎◌, inl, inr, arith, Option, Some, None, length-set, length-append, slice_set, slice_index_or, get_or-set_same, get_or-set_other, cases_Bool, Object, Entry, Place, Queued, is_child, at_group, Family, before_closed, Replayed, given_by, no_queue, took_of, KeepsOthers, IsReplayed, given_from, AreJournals, AreReplayed, printed_entries, zero, suc, ⊎_elim, slice_get, slice_index, IsTree, parent_of, IsReplayedAt}
 use Rattle.std.proofs.lemmas.Option.{slice_get_within, slice_get_past}

@@ -1,3 +1,4 @@
+-- SPDX-License-Identifier: GPL-2.0-only
 -- What is said of each answer, walk, place and entry, against loops over what is printed.
 use Rattle.shr_audit_case.proofs.Common.{◌≡◌, ℕ, Bool, List, [], Option, Some, None, refl, sym, ap, subst, ◌∙◌, inl, inr, arith, slice_get, Decides, slice_get_within, Place, Entry, WorkerPart, journal_of, IsFirst, AnswersInParts, EachFirst, InParts, answers_in, serial_of, walks_in, journals_of, EachAnswer, EachEntry, EachWalk}
 use Rattle.shr_base.specs.declared.places.Serial.{Serial}

@@ -1,3 +1,4 @@
+-- SPDX-License-Identifier: GPL-2.0-only
 -- The list that is printed for a place, and the first one.
 use Rattle.shr_audit_case.proofs.Common.{◌≡◌, ◌≢◌, ℕ, zero, suc, ◌<◌, true, false, List, [], ◌∷◌, length, get_or, Some, None, refl, sym, ap, ◌∙◌, ◌⊎◌, inl, inr, arith, slice_get, cases_Bool, get_or_from_slice_get, slice_get-get_or, slice_get_within, Place, PlaceEnd, IsFirst, IsIndexOf, end_printed}
 use Rattle.shr_model.specs.Places.{is_place}

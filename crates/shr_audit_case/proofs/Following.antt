@@ -1,3 +1,4 @@
+-- SPDX-License-Identifier: GPL-2.0-only
 -- A replay under way: what its entries so far told, and what those behind them will tell.
 use Rattle.shr_audit_case.proofs.ReplayCommon.{◌≡◌, ℕ, ◌+◌, Bool, true, false, cond, List, [], ◌∷◌, ◌++◌, length, map, refl, sym, ap, ◌∙◌, subst, arith, append_assoc, append-nil, length-append, ◌↔◌, Decides, Object, Entry, Add, Look, Drop, Pin, Scan, MovedIn, Closed, Drained, moved_by, before_closed, without_child, FreedTag, Replayed, took_after, tag_of, freed_tag, given_from, IsReplayed, ◌||◌, not, if◌then◌else◌}
 use Rattle.std.proofs.lemmas.List.Sums.{take_while-cons}

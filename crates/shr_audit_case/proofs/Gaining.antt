@@ -1,3 +1,4 @@
+-- SPDX-License-Identifier: GPL-2.0-only
 -- Moves that are added one after another.
 use Rattle.shr_audit_case.proofs.SumsCommon.{◌≡◌, ℕ, ◌+◌, ◌<◌, Bool, true, false, cond, List, [], ◌∷◌, length, get_or, take, drop, refl, sym, ap, ◌∙◌, arith, ◌≤◌, sum_by, flat_map, sum_by_more, sum_by-cons, Place, PassRecord, WalkRecord, Carry, ◌&&◌, ◌==◌, is_place, nat_tests, passes_at, Move, IsNarrow, GainsAt, GainsAtEach, ◌++◌, Option, Some, None, subst, ◌⊎◌, filter, filter_map, sum_by_push, sum_by-append, nat_lt, is_below, at_group, place_in}
 use Rattle.std.specs.List.{cons_option}

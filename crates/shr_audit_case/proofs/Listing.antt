@@ -1,3 +1,4 @@
+-- SPDX-License-Identifier: GPL-2.0-only
 -- The nodes of a queue, gone through from the head.
 use Rattle.shr_audit_case.proofs.ReplayCommon.{◌≡◌, ℕ, ◌+◌, ◌≤◌, ◌⊎◌, inl, inr, List, [], ◌∷◌, ◌++◌, map, length, Option, Some, None, refl, sym, ap, ◌∙◌, arith, append_assoc, append-nil, length-append, Keyed, first_key, objects_of, IsAt, AtNode, Tag, tag_of, map-append}
 

@@ -1,3 +1,4 @@
+-- SPDX-License-Identifier: GPL-2.0-only
 -- The registration that an id is in after so many entries, by the spans of all registrations.
 use Rattle.shr_audit_case.proofs.RegistrationsCommon.{◌≡◌, ◌≢◌, ℕ, zero, suc, ◌+◌, ◌<◌, ◌≤◌, Bool, true, false, cond, List, [], ◌∷◌, length, take, drop, Option, Some, None, refl, sym, ap, subst, ◌∙◌, arith, ◌&&◌, ◌==◌, nat_lt, PoolEntry, Registered, Unregistered, Idle, Registration, End, is_within, to_of, same_byte, ◌%◌, slice_get}
 use lib.ListN.{get_elem?}

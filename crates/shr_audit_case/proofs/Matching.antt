@@ -1,3 +1,4 @@
+-- SPDX-License-Identifier: GPL-2.0-only
 -- Objects that are printed, gone through beside the nodes of a queue.
 use Rattle.shr_audit_case.proofs.ReplayCommon.{◌≡◌, ◌≢◌, ℕ, Bool, true, false, List, [], ◌∷◌, ◌++◌, map, Option, Some, None, refl, sym, ap, ◌∙◌, subst, append_assoc, ◌↔◌, Decides, Object, Keyed, first_key, objects_of, IsAt, AtNode, is_none}
 

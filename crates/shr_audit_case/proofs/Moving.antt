@@ -1,3 +1,4 @@
+-- SPDX-License-Identifier: GPL-2.0-only
 -- What an entry takes of the children's lists, by the child that it names.
 use Rattle.shr_audit_case.proofs.ReplayCommon.{◌≡◌, ◌≢◌, ℕ, ◌<◌, ◌≤◌, Bool, true, false, List, [], length, Option, Some, None, refl, sym, ap, ◌∙◌, subst, arith, Object, Entry, Add, Look, Drop, Pin, Scan, MovedIn, Closed, Drained, child_of, moved_by, without_child, took_after}
 use Rattle.shr_audit_case.specs.Replay.{left_given}

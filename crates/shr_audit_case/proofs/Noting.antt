@@ -1,3 +1,4 @@
+-- SPDX-License-Identifier: GPL-2.0-only
 -- The lookups of registrations, entry by entry.
 use Rattle.shr_audit_case.proofs.RegistrationsCommon.{◌≡◌, ◌≢◌, ℕ, ◌+◌, ◌-◌, ◌*◌, ◌<◌, ◌≤◌, ◌^◌, Bool, true, false, cond, List, [], ◌∷◌, ◌++◌, length, get_or, drop, Option, Some, None, refl, sym, ap, subst, ◌∙◌, arith, ◌&&◌, ◌==◌, nat_le, nat_lt, nat_cmp, lookup, BTreeMap, IsEmpty, get, is_at, nat_tests, drop_more, PoolEntry, Registered, Unregistered, Idle, Registration, Span, AreNoted, decl_found, lookup_key, stop_key, has_key, last_in, same_byte, is_eq}
 use Rattle.std.specs.declared.cmp.Ordering.TheVariants.{Less, Equal, Greater}

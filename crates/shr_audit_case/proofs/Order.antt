@@ -1,3 +1,4 @@
+-- SPDX-License-Identifier: GPL-2.0-only
 -- Lists in the order of their places.
 use Rattle.shr_audit_case.proofs.Common.{◌≡◌, ◌≢◌, ℕ, zero, suc, ◌+◌, ◌-◌, ◌<◌, ◌≤◌, Bool, true, false, List, length, get_or, refl, sym, ap, subst, ◌∙◌, ◌⊎◌, inl, inr, arith, ◌==◌, nat_lt, slice_get, Some, None, Decides, get_or_from_slice_get, slice_get-get_or, slice_get_within, cases_Bool, cases_order, and_parts, eqb-true, ltb-true, Place, PlaceEnd, IsPlaceBefore, IsPlaceUpTo, AreInOrder, IsFirst, comes_before, end_printed, ◌&&◌, ◌||◌, and_from, eq-eqb, lt-ltb, IsBefore}
 use Rattle.std.specs.List.Sorted.{IsPartitionedBy}

@@ -1,3 +1,4 @@
+-- SPDX-License-Identifier: GPL-2.0-only
 -- The predicates of this crate, by values that meet them and values that don't.
 use Rattle.shr_audit_case.proofs.RegistrationsCommon.{◌≡◌, true, false, List, [], ◌∷◌, Some, None, refl, Registration, Span, Step, decl_found, lookup_key, stop_key, has_key, last_in, step_at}
 use Rattle.shr_audit_case.specs.Steps.{last_from, step_from}

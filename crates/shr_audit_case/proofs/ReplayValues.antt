@@ -1,3 +1,4 @@
+-- SPDX-License-Identifier: GPL-2.0-only
 -- Journals, replayed, at known values.
 use Rattle.shr_audit_case.proofs.ReplayCommon.{arith, ap, ◌≡◌, ℕ, true, false, List, [], ◌∷◌, refl, Object, Entry, Add, Look, MovedIn, Closed, Drained, Queued, Tag, FreedTag, Replayed, tag_of, freed_tag, given_by, took_of, took_after, given_from, IsReplayed}
 use Rattle.shr_base.specs.declared.places.Serial.{Serial}

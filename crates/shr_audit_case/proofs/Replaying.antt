@@ -1,3 +1,4 @@
+-- SPDX-License-Identifier: GPL-2.0-only
 -- A replay of the lists under way: what is there for the next list, and what is left after it.
 use Rattle.shr_audit_case.proofs.Common.{◌≡◌, ◌≢◌, ℕ, ◌+◌, ◌-◌, ◌<◌, ◌≤◌, true, false, List, [], ◌∷◌, length, length-append, get_or, Option, Some, None, refl, sym, ap, subst, ◌∙◌, ◌⊎◌, inl, inr, arith, slice_get, slice_index, ◌==◌, nat_lt, cases_Bool, cases_order, and_parts, eqb-true, ltb-true, get_or_from_slice_get, slice_get-get_or, slice_get_within, Place, Object, Entry, PlaceEnd, journal_of, IsPlaceBefore, IsPlaceUpTo, Replayed, AreJournals, ArePrinted, IsReplayedAt, printed_items, IsReplayed, AreInOrder, IsFirst, IsReplayOfList, items_printed_in, journals_in, AreFirsts, AreReplaysBefore, IsNewAt, IsTakenOut, on_node, cond, ◌++◌, ltb-false, AreReplayed, printed_entries, AreReplaysAt}
 use Rattle.std.proofs.lemmas.List.{get_or_append_left}

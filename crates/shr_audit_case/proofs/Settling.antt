@@ -1,3 +1,4 @@
+-- SPDX-License-Identifier: GPL-2.0-only
 -- What the runs of a sorted list say of its sums.
 use Rattle.shr_audit_case.proofs.SumsCommon.{◌≡◌, ℕ, ◌+◌, ◌<◌, ◌≤◌, ◌%◌, ◌^◌, Bool, true, false, cond, ◌&&◌, List, [], ◌∷◌, length, get_or, drop, refl, sym, ap, ◌∙◌, arith, ◌==◌, ◌↔◌, sum_by, nat_tests, sum_by-cons, Move, sum_up_at, sum_down_at, IsSettled, ◌≢◌, suc, inl, inr, IsPermutation}
 use Rattle.std.specs.List.Sorted.{IsNonDecreasingBy}

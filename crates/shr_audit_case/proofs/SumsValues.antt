@@ -1,3 +1,4 @@
+-- SPDX-License-Identifier: GPL-2.0-only
 -- Sums by key at known values.
 use Rattle.shr_audit_case.proofs.SumsCommon.{arith, ap, ◌≡◌, ℕ, ◌^◌, ◌-◌, true, false, List, [], ◌∷◌, refl, Place, Carry, Move, sum_up_at, sum_down_at, IsSettled, deferred_key, IsNarrow, GainsAtEach, carried_to, carried_from}
 use Rattle.shr_audit_case.specs.Moves.{settles}

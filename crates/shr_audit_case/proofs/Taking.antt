@@ -1,3 +1,4 @@
+-- SPDX-License-Identifier: GPL-2.0-only
 -- The lists of children, before and after one was taken.
 use Rattle.shr_audit_case.proofs.ReplayCommon.{◌≡◌, ◌≢◌, ℕ, ◌<◌, ◌≤◌, Bool, true, false, cond, List, [], length, set, refl, sym, ap, ◌∙◌, subst, arith, length-set, slice_index_or, slice_set, cases_Bool, get_or-set_same, get_or-set_other, Object, Queued, is_child, without_child, given_by, no_queue, took_of, KeepsOthers, eq-eqb, ◌==◌, ◌&&◌, nat_lt, ltb-false, ltb-true, eqb-true, ne_eqb, get_or_past}
 

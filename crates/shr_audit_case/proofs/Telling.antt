@@ -1,3 +1,4 @@
+-- SPDX-License-Identifier: GPL-2.0-only
 -- What the replay of a place tells.
 use Rattle.shr_audit_case.proofs.Common.{◌≡◌, ℕ, zero, suc, ◌+◌, ◌<◌, ◌≤◌, true, List, [], ◌∷◌, length, get_or, take, Some, None, refl, sym, ap, subst, ◌∙◌, inl, inr, arith, slice_get, Decides, Place, Object, Entry, PlaceEnd, Replayed, tag_of, IsReplayedAt, printed_items, IsReplayed, journal_of, IsFirst, IsIndexOf, end_printed, AreReplays, items_printed_in, journals_in}
 use Rattle.std.proofs.lemmas.List.{length-map}

@@ -1,5 +1,8 @@
+-- SPDX-License-Identifier: GPL-2.0-only
 -- What is so of each number, one after another.
-use Rattle.shr_audit_fresh.proofs.Common.{◌≡◌, ℕ, ◌+◌, ◌<◌, ◌≤◌, Bool, true, false, refl, subst, inl, inr, arith, Decides, cases_lt}
+use Rattle.std.proofs.Common.{◌≡◌, ℕ, ◌+◌, ◌<◌, ◌≤◌, Bool, true, false, refl, subst, inl, inr, arith}
+use Rattle.std.proofs.lemmas.Bool.{cases_lt}
+use Rattle.std.specs.Bool.{Decides}
 
 module _ (P : ℕ → Type 0) (n : ℕ) where
   pub upto_more : ((k : ℕ) → k < n → P k) → P n → (k : ℕ) → k < n + 1 → P k

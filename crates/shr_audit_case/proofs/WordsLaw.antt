@@ -1,3 +1,4 @@
+-- SPDX-License-Identifier: GPL-2.0-only
 -- The moves of a report settle if and only if its deferred words are right.
 use Rattle.shr_audit_case.proofs.SumsCommon.{◌≡◌, ℕ, ◌+◌, ◌-◌, ◌%◌, ◌^◌, ◌<◌, ◌≤◌, List, [], refl, sym, ◌∙◌, arith, Bool, true, ◌↔◌, Place, WalkRecord, PassRecord, Carry, sum_at, given_at, taken_at, Move, sum_up_at, sum_down_at, IsSettled, deferred_key, IsNarrow, GainsAt, GainsAtEach, ◌*◌, ◌/◌, deferred_word}
 use Rattle.std.specs.Bool.{Decides}

@@ -1,3 +1,4 @@
+-- SPDX-License-Identifier: GPL-2.0-only
 -- The moves of deferred words: what each of a report's lines adds at its place.
 use Rattle.std.specs.Prelude.{◌≡◌, ℕ, ◌+◌, ◌*◌, ◌<◌, ◌^◌, ◌&&◌, nat_lt, cond, List, length, sum_by, flat_map}
 use Rattle.std.specs.List.{AllByRecursion}

@@ -1,3 +1,4 @@
+-- SPDX-License-Identifier: GPL-2.0-only
 -- What is said of each answer, walk and entry of a report, as a loop over what is printed sees it.
 use Rattle.std.specs.Prelude.{◌≡◌, ℕ, List, slice_get, Some}
 use Rattle.shr_base.specs.declared.places.Serial.{Serial}

@@ -1,3 +1,4 @@
+-- SPDX-License-Identifier: GPL-2.0-only
 -- The journals of all groups for one id on one node, replayed together.
 use Rattle.std.specs.Prelude.{◌≡◌, ℕ, ◌+◌, ◌<◌, List, [], length, slice_get, slice_index, Option, Some, None}
 use Rattle.shr_base.specs.declared.ends.PlaceEnd.{PlaceEnd}

@@ -1,3 +1,4 @@
+-- SPDX-License-Identifier: GPL-2.0-only
 -- Amounts that go up and down at keys, and when those of each key come to the same.
 use Rattle.std.specs.Prelude.{◌≡◌, ℕ, ◌+◌, ◌%◌, ◌^◌, Bool, ◌&&◌, ◌==◌, cond, List, [], ◌∷◌, sum_by}
 use Rattle.shr_audit_case.specs.declared.moves.Move.{Move}

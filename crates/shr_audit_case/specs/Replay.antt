@@ -1,3 +1,4 @@
+-- SPDX-License-Identifier: GPL-2.0-only
 -- One entry of a journal, replayed on the objects of its list.
 use Rattle.std.specs.Prelude.{◌≡◌, List, []}
 use Rattle.std.specs.Bool.{Decides}

@@ -1,3 +1,4 @@
+-- SPDX-License-Identifier: GPL-2.0-only
 -- The lists that the places of an id on a node give to those of their parent groups.
 use Rattle.std.specs.Prelude.{◌≡◌, ℕ, false, if◌then◌else◌, List, [], length, slice_index_or}
 use Rattle.shr_base.specs.declared.objects.Object.{Object}

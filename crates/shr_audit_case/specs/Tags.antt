@@ -1,3 +1,4 @@
+-- SPDX-License-Identifier: GPL-2.0-only
 -- Objects by the command that added them and by their birth group.
 use Rattle.std.specs.Prelude.{ℕ}
 use Rattle.shr_base.specs.declared.objects.Object.{Object}

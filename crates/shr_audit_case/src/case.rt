@@ -1,3 +1,4 @@
+// SPDX-License-Identifier: GPL-2.0-only
 //! A script and its report, indexed once.
 
 ghost use Rattle.std.specs.Prelude.{◌≡◌, ◌≤◌, List, [], length, map, take, option_copied, IfOk};
@@ -26,7 +27,7 @@ use shr_laws::report::Report;
 use std::alloc::Global;
 
 /// What is indexed once of a script and its report: the parents of the groups, the root first, and
-/// for each list that is printed what its journal leaves. Our own.
+/// for each list that is printed what its journal leaves.
 #[derive(Drop)]
 pub struct Case {
     pub parents: Vec<u16>,
@@ -48,7 +49,7 @@ fn count_in(told: &Replayed, entries: usize) -> usize
 }
 
 impl Case {
-    /// The case of a script and a report. It replays each journal once. Our own.
+    /// The case of a script and a report. It replays each journal once.
     pub fn of(alloc: Global, script: &Script, report: &Report) -> Result<Case, Memory>
         requires tree { IsTree (parents_of script.now) }
         requires few { length (parents_of script.now) ≤ 65536 }
@@ -73,7 +74,7 @@ impl Case {
     }
 
     /// The number of objects of a place after so many entries of its journal, or at its end where it
-    /// has fewer. Our own.
+    /// has fewer.
     pub fn count_after(&self, report: &Report, place: Place, entries: usize) -> usize
         requires { IsReplayOf report.now self.now }
         ensures { result ≡ length (items_at self.now.parents.items
@@ -86,7 +87,6 @@ impl Case {
     }
 
     /// The objects that the entries of a place freed, in order, each with the number of its entry.
-    /// Our own.
     pub fn freed(&self, report: &Report, place: Place) -> &[FreedTag]
         requires { IsReplayOf report.now self.now }
         ensures { result.now ≡ freed_tags 0 (lists_moved_at self.now.parents.items
@@ -98,7 +98,7 @@ impl Case {
         }
     }
 
-    /// The objects that the journal of a place leaves, from the head. Our own.
+    /// The objects that the journal of a place leaves, from the head.
     pub fn left(&self, report: &Report, place: Place) -> &[Tag]
         requires { IsReplayOf report.now self.now }
         ensures { result.now ≡ map tag_of (items_of self.now.parents.items
@@ -111,7 +111,7 @@ impl Case {
     }
 
     /// The values of the objects that the Looks of a place found, in order, each with the number of
-    /// its entry. Our own.
+    /// its entry.
     pub fn values(&self, report: &Report, place: Place) -> &[FoundValue]
         requires { IsReplayOf report.now self.now }
         ensures { result.now ≡ values_from 0 (lists_moved_at self.now.parents.items
@@ -123,7 +123,7 @@ impl Case {
         }
     }
 
-    /// Whether the objects that are printed for a place are those that its journal leaves. Our own.
+    /// Whether the objects that are printed for a place are those that its journal leaves.
     pub fn items_are_left(&self, report: &Report, place: Place) -> bool
         requires { IsReplayOf report.now self.now }
         ensures { Decides result (items_printed_in report.now.places.items place
@@ -135,7 +135,7 @@ impl Case {
         }
     }
 
-    /// Whether each entry of a place says of its outcome what is so. Our own.
+    /// Whether each entry of a place says of its outcome what is so.
     pub fn outcomes_are_so(&self, report: &Report, place: Place) -> bool
         requires { IsReplayOf report.now self.now }
         ensures { Decides result (AreOutcomes (lists_moved_at self.now.parents.items

@@ -1,3 +1,4 @@
+// SPDX-License-Identifier: GPL-2.0-only
 //! Deferred words: whether each is what passes and carries gave less what they took.
 
 ghost use Rattle.std.specs.Prelude.{◌≡◌, ◌<◌, ◌^◌, OnOk, IfOk, cond, sum_by, flat_map};
@@ -38,7 +39,6 @@ fn note(moves: &mut Vec<Move>, place: Place, up: u64, down: u64) -> Result<(), M
 }
 
 /// Adds the printed words: each is what was given there and not taken. On `Memory` some are added.
-/// Our own.
 pub fn note_words(moves: &mut Vec<Move>, words: &[PlaceAmount]) -> Result<(), Memory>
     ensures { OnOk result (GainsAtEach (λ p. 0) (λ p. sum_at p words.now)
         moves.old.items moves.new.items) }
@@ -100,7 +100,7 @@ fn note_carry(moves: &mut Vec<Move>, parents: &[u16], carry: &Carry) -> Result<(
     Ok(())
 }
 
-/// Adds the passes of walks. On `Memory` some are added. Our own.
+/// Adds the passes of walks. On `Memory` some are added.
 pub fn note_walks(moves: &mut Vec<Move>, walks: &[WalkRecord]) -> Result<(), Memory>
     ensures { OnOk result (GainsAtEach
         (λ p. sum_by (λ (x : PassRecord). x.next) (flat_map (passes_at p) walks.now))
@@ -114,7 +114,7 @@ pub fn note_walks(moves: &mut Vec<Move>, walks: &[WalkRecord]) -> Result<(), Mem
 }
 
 /// Adds carries: each takes at its place and gives at that of the parent group. On `Memory` some are
-/// added. Our own.
+/// added.
 pub fn note_carries(moves: &mut Vec<Move>, parents: &[u16], carries: &[Carry]) -> Result<(), Memory>
     ensures { OnOk result (GainsAtEach (λ p. sum_by (carried_to parents.now p) carries.now)
         (λ p. sum_by (carried_from p) carries.now) moves.old.items moves.new.items) }
@@ -126,7 +126,7 @@ pub fn note_carries(moves: &mut Vec<Move>, parents: &[u16], carries: &[Carry]) -
 }
 
 /// Whether each printed word is what passes and carries gave to its place less what they took,
-/// modulo 2^64. Our own.
+/// modulo 2^64.
 pub fn words_settle(
     alloc: Global,
     parents: &[u16],

@@ -1,3 +1,4 @@
+// SPDX-License-Identifier: GPL-2.0-only
 //! The journals of all groups for one id on one node, replayed together.
 
 ghost use Rattle.std.specs.Prelude.{◌≡◌, ℕ, ◌≤◌, List, [], length, slice_get, IfOk, OnOk, option_copied};
@@ -69,7 +70,7 @@ fn no_lists(alloc: Global, count: usize) -> Result<Vec<Queue>, Memory>
 
 /// Replays the journals of all groups for one id on one node, the last group first, so that a list is
 /// there before the list of its parent group takes it in. `firsts` has for each group the index among
-/// `ends` of its journal, and one past the last end where the group has none. Our own.
+/// `ends` of its journal, and one past the last end where the group has none.
 pub fn replay_groups(
     alloc: Global,
     parents: &[u16],

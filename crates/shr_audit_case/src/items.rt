@@ -1,3 +1,4 @@
+// SPDX-License-Identifier: GPL-2.0-only
 //! The objects that are printed, against those that a list has.
 
 ghost use Rattle.std.specs.Prelude.{◌≡◌};
@@ -21,7 +22,7 @@ fn is_object(a: &Object, b: &Object) -> bool
         && values
 }
 
-/// Whether the objects that are printed are those of a list, from the head. Our own.
+/// Whether the objects that are printed are those of a list, from the head.
 pub(crate) fn are_items(printed: &Items, queue: &Queue) -> bool
     ensures { Decides result (printed.now.items ≡ queue.now.items) }
 {

@@ -1,3 +1,4 @@
+// SPDX-License-Identifier: GPL-2.0-only
 //! One journal, replayed.
 
 ghost use Rattle.std.specs.Prelude.{◌≡◌, [], true, if◌then◌else◌, IfOk, OnOk};
@@ -17,7 +18,7 @@ use shr_list::queue::Queue;
 use std::alloc::Global;
 use std::mem::replace;
 
-/// What a journal tells of its list. Our own.
+/// What a journal tells of its list.
 #[derive(Drop)]
 pub struct Replayed {
     /// The number of objects before each entry, and behind these the number after the last.
@@ -149,7 +150,7 @@ impl Course {
 /// Replays the journal of a group's list, for which the objects `printed` are printed. `lists` has
 /// for each child of the group the list that is to be moved in, and the second answer is what this
 /// list gives to that of its own parent: what it held before its first Closed, or at the end. It costs
-/// an operation of the list's index for each entry, and a scan its visits. Our own.
+/// an operation of the list's index for each entry, and a scan its visits.
 pub fn replay_journal(
     alloc: Global,
     parents: &[u16],

@@ -1,13 +1,8 @@
-//! A script and its report, by the index: the journal of a place, the answer to a command, and what
-//! each journal leaves. Our own.
+// SPDX-License-Identifier: GPL-2.0-only
+//! A script and its report, by the index: journals replayed, sums by key, and registrations.
 //!
-//! Sums by key: whether what goes up at each key is what goes down there. Our own.
-//!
-//! Journals of lists, replayed: what each list held after each entry, what each entry freed and met,
-//! what is left, and whether each entry says of its outcome what is so. Our own.
-//!
-//! Registrations of a journal, by the lookups that lie in them and by the entries between which they
-//! are live. Our own.
+//! The journal of a place, the answer to a command, and what each journal leaves; whether what goes up at each key
+//! is what goes down there; what each list held after each entry; and the lookups that lie in each registration.
 #![tactic(auto)]
 
 pub mod case;

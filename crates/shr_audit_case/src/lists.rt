@@ -1,3 +1,4 @@
+// SPDX-License-Identifier: GPL-2.0-only
 //! The journals of all lists of a report, replayed.
 
 ghost use Rattle.std.specs.Prelude.{◌≡◌, ◌+◌, ◌-◌, ◌<◌, ◌≤◌, [], length, slice_get, Some, IfOk, OnOk};
@@ -175,7 +176,7 @@ fn replay_next(
     Ok(replayed)
 }
 
-/// Replays the journal of each list, in the order of the lists. Our own.
+/// Replays the journal of each list, in the order of the lists.
 pub fn replay_lists(
     alloc: Global,
     parents: &[u16],

@@ -1,3 +1,4 @@
+// SPDX-License-Identifier: GPL-2.0-only
 //! Which registration an id is in after so many entries of the journal.
 
 ghost use Rattle.std.specs.Prelude.{◌≡◌, ℕ, ◌∷◌, ◌==◌, ◌&&◌, ◌<◌, ◌≤◌, ◌^◌, ◌+◌, ◌-◌, nat_lt, List, length, IfOk, OnOk};
@@ -16,14 +17,14 @@ use std::alloc::Global;
 use std::collections::BTreeMap;
 
 /// The end of a registration: the number of the first lookup past it, and how many entries there are
-/// with the one that ends it. Our own.
+/// with the one that ends it.
 #[derive(Clone, Copy, Debug, PartialEq, Eq)]
 pub struct End {
     pub to: u32,
     pub behind: usize,
 }
 
-/// Which registration each id was in after so many entries, for each number of entries. Our own.
+/// Which registration each id was in after so many entries, for each number of entries.
 #[derive(Drop)]
 pub struct Lives {
     steps: Vec<Step>,
@@ -160,7 +161,7 @@ fn spans_of(alloc: Global, pool: &[PoolEntry]) -> Result<Vec<Span>, Memory>
 
 impl Lives {
     /// Which registrations the ids were in, if these entries are a journal of registrations. It goes
-    /// through them once, and sorts them. Our own.
+    /// through them once, and sorts them.
     pub fn of(alloc: Global, pool: &[PoolEntry]) -> Result<Lives, Memory>
         ensures { IfOk result (λ lives. (ids decls : ℕ) → IsPoolJournal ids decls pool.now
             → AreLives pool.now lives) }
@@ -170,7 +171,7 @@ impl Lives {
         Ok(Lives { steps })
     }
 
-    /// The registration that an id was in after so many entries. Our own.
+    /// The registration that an id was in after so many entries.
     pub fn at(&self, id: u16, entry: u32) -> Option<Registration>
         ensures { (es : List PoolEntry) → AreLives es self.now → entry ≤ length es
             → result ≡ live_now id es entry }

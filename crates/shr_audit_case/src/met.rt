@@ -1,3 +1,4 @@
+// SPDX-License-Identifier: GPL-2.0-only
 //! Which declaration each lookup met, by a journal of registrations.
 
 ghost use Rattle.std.specs.Prelude.{◌≡◌, ℕ, ◌∷◌, ◌==◌, ◌&&◌, ◌<◌, ◌^◌, nat_le, List, IfOk, OnOk};
@@ -15,7 +16,7 @@ use std::alloc::Global;
 use std::collections::BTreeMap;
 
 /// What each lookup met by a journal of registrations: the first registration of its id in which its
-/// number lies. Our own.
+/// number lies.
 #[derive(Drop)]
 pub struct Met {
     steps: Vec<Step>,
@@ -117,7 +118,7 @@ fn spans_of(alloc: Global, pool: &[PoolEntry]) -> Result<Vec<Span>, Memory>
 
 impl Met {
     /// What each lookup met by any journal, also one whose registrations overlap. It goes through
-    /// the journal once, and sorts it by its numbers. Our own.
+    /// the journal once, and sorts it by its numbers.
     pub fn of(alloc: Global, pool: &[PoolEntry]) -> Result<Met, Memory>
         ensures { IfOk result (λ met. IsMetIn pool.now met) }
     {
@@ -127,7 +128,7 @@ impl Met {
     }
 
     /// The declaration that the lookup of an id with this number met, whether the lookup was made
-    /// or not. Our own.
+    /// or not.
     pub fn decl(&self, id: u16, number: u32) -> Option<u8>
         ensures { (es : List PoolEntry) → IsMetIn es self.now
             → result ≡ decl_at number (registrations id es) }

@@ -1,3 +1,4 @@
+// SPDX-License-Identifier: GPL-2.0-only
 //! Amounts that go up and down at keys.
 
 ghost use Rattle.std.specs.Prelude.{◌≡◌, true, ◌↔◌, IfOk};
@@ -5,7 +6,7 @@ ghost use Rattle.shr_audit_case.specs.Moves.{IsSettled, settles};
 
 use shr_base::memory::Memory;
 
-/// So much goes up and down at a key. Our own.
+/// So much goes up and down at a key.
 #[derive(Clone, Copy, Debug, PartialEq, Eq)]
 pub struct Move {
     pub key: u64,
@@ -36,7 +37,7 @@ fn runs_settle(moves: &[Move]) -> bool
     up == down
 }
 
-/// Whether at each key what goes up is what goes down, modulo 2^64. Our own.
+/// Whether at each key what goes up is what goes down, modulo 2^64.
 pub fn is_settled(moves: Vec<Move>) -> Result<bool, Memory>
     ensures { IfOk result (λ b. (b ≡ true) ↔ IsSettled moves.items) }
 {

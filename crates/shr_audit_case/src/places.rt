@@ -1,3 +1,4 @@
+// SPDX-License-Identifier: GPL-2.0-only
 //! The lists of a report by their places.
 
 ghost use Rattle.std.specs.Prelude.{◌≡◌, ℕ, ◌<◌, ◌≤◌, true, false, length, slice_get, Some, None, option_copied, IfSome, IfNone};
@@ -37,7 +38,7 @@ fn index_from(ends: &[PlaceEnd], place: Place) -> usize
     ends.partition_point(|end| comes_before(end.place, place))
 }
 
-/// The index of the list that is printed for a place, the first one where there are more. Our own.
+/// The index of the list that is printed for a place, the first one where there are more.
 pub fn index_of(ends: &[PlaceEnd], place: Place) -> Option<usize>
     requires { AreInOrder ends.now }
     ensures some { IfSome result (λ k. IsIndexOf ends.now place k) }
@@ -51,7 +52,7 @@ pub fn index_of(ends: &[PlaceEnd], place: Place) -> Option<usize>
     }
 }
 
-/// Whether a list is the first one that is printed for its place. Our own.
+/// Whether a list is the first one that is printed for its place.
 pub fn is_first(ends: &[PlaceEnd], k: usize) -> bool
     requires order { AreInOrder ends.now }
     requires there { k < length ends.now }
@@ -61,7 +62,7 @@ pub fn is_first(ends: &[PlaceEnd], k: usize) -> bool
     k == 0 || comes_before(ends[k - 1].place, ends[k].place)
 }
 
-/// The list that is printed for a place. Our own.
+/// The list that is printed for a place.
 pub fn end_at(report: &Report, place: Place) -> Option<&PlaceEnd>
     requires { AreInOrder report.now.places.items }
     ensures { option_copied result ≡ end_printed report.now.places.items place }
@@ -73,7 +74,7 @@ pub fn end_at(report: &Report, place: Place) -> Option<&PlaceEnd>
     }
 }
 
-/// The journal of a place; a place that isn't printed has the empty one. Our own.
+/// The journal of a place; a place that isn't printed has the empty one.
 pub fn journal_at(report: &Report, place: Place) -> &[Entry]
     requires { AreInOrder report.now.places.items }
     ensures { result.now ≡ journals_of report.now place }

@@ -1,3 +1,4 @@
+// SPDX-License-Identifier: GPL-2.0-only
 //! The lists that the places of an id on a node give to those of their parent groups.
 
 ghost use Rattle.std.specs.Prelude.{◌≡◌, [], ◌&&◌, nat_lt, IfOk, OnOk};
@@ -48,7 +49,7 @@ fn replay_alone(alloc: Global, queue: &mut Queue, entry: &Entry) -> Result<Told,
 
 /// Replays an entry of a group's list, where `lists` has for each child of the group the list that is
 /// still to be moved in. An entry that moves a child's list in empties it there; one that names a
-/// group that is no child moves nothing. Our own.
+/// group that is no child moves nothing.
 pub fn replay_with(
     alloc: Global,
     parents: &[u16],

@@ -1,3 +1,4 @@
+// SPDX-License-Identifier: GPL-2.0-only
 //! Commands, answers and walks by their numbers.
 
 ghost use Rattle.std.specs.Prelude.{◌≡◌, option_copied, IfOk};
@@ -11,7 +12,7 @@ use shr_base::walks::WalkRecord;
 use shr_laws::report::Report;
 use std::alloc::Global;
 
-/// The command with this serial, if the script has it. Our own.
+/// The command with this serial, if the script has it.
 pub fn command_at(script: &Script, by: Serial) -> Option<&Command>
     ensures { option_copied result ≡ command_at script.now by }
 {
@@ -21,7 +22,7 @@ pub fn command_at(script: &Script, by: Serial) -> Option<&Command>
     }
 }
 
-/// The answer to the command with this serial, if the report has it. Our own.
+/// The answer to the command with this serial, if the report has it.
 pub fn answer_at(report: &Report, by: Serial) -> Option<&Answered>
     ensures { option_copied result ≡ answer_at report.now by }
 {
@@ -31,7 +32,7 @@ pub fn answer_at(report: &Report, by: Serial) -> Option<&Answered>
     }
 }
 
-/// A walk by the number of its worker and its own. Our own.
+/// A walk by the number of its worker and its own.
 pub fn walk_at(report: &Report, worker: u16, n: u64) -> Option<&WalkRecord>
     ensures { option_copied result ≡ walk_at report.now worker n }
 {
@@ -41,7 +42,7 @@ pub fn walk_at(report: &Report, worker: u16, n: u64) -> Option<&WalkRecord>
     }
 }
 
-/// The parents of the groups of a script, the root first. Our own.
+/// The parents of the groups of a script, the root first.
 pub fn parents_of(alloc: Global, script: &Script) -> Result<Vec<u16>, Memory>
     ensures { IfOk result (λ parents. parents.items ≡ parents_of script.now) }
 {

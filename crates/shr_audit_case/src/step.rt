@@ -1,3 +1,4 @@
+// SPDX-License-Identifier: GPL-2.0-only
 //! One entry of a journal, replayed on a queue.
 
 ghost use Rattle.std.specs.Prelude.{◌≡◌, ℕ, IfOk, OnOk, [], option_copied};
@@ -15,8 +16,7 @@ use shr_base::text::Text;
 use shr_list::queue::Queue;
 use std::alloc::Global;
 
-/// What an entry freed, the value that it met if it is a Look, and whether its outcome is so. Our
-/// own.
+/// What an entry freed, the value that it met if it is a Look, and whether its outcome is so.
 #[derive(Drop)]
 pub struct Told {
     pub freed: Log<Object>,
@@ -191,7 +191,7 @@ fn closed(alloc: Global, queue: &mut Queue) -> Told
 /// Replays an entry on the objects of a list. `given` is what an entry that moves a child's list in
 /// finds there, and such an entry empties it.
 ///
-/// After Memory the objects may be those before the entry or after it. Our own.
+/// After Memory the objects may be those before the entry or after it.
 pub fn replay_entry(
     alloc: Global,
     queue: &mut Queue,

@@ -1,3 +1,4 @@
+// SPDX-License-Identifier: GPL-2.0-only
 //! Objects by the command that added them and by their birth group.
 
 ghost use Rattle.std.specs.Prelude.{◌≡◌, ◌++◌, map, OnOk, IfOk};
@@ -10,7 +11,7 @@ use shr_base::places::Serial;
 use shr_list::queue::Queue;
 use std::alloc::Global;
 
-/// An object by the command that added it, and the group that it was born in. Our own.
+/// An object by the command that added it, and the group that it was born in.
 #[derive(Clone, Copy, Debug, PartialEq, Eq)]
 pub struct Tag {
     pub serial: Serial,
@@ -18,7 +19,7 @@ pub struct Tag {
 }
 
 /// An object that was freed, and the number of the entry that freed it, counted from 0 in its
-/// journal. Our own.
+/// journal.
 #[derive(Clone, Copy, Debug, PartialEq, Eq)]
 pub struct FreedTag {
     pub entry: usize,
@@ -34,7 +35,7 @@ fn tag_of(object: &Object) -> Tag
     }
 }
 
-/// Notes the objects that an entry freed. Our own.
+/// Notes the objects that an entry freed.
 pub(crate) fn note_freed(
     tags: &mut Vec<FreedTag>,
     entry: usize,
@@ -51,7 +52,7 @@ pub(crate) fn note_freed(
     Ok(())
 }
 
-/// The objects of a queue from the head. Our own.
+/// The objects of a queue from the head.
 pub(crate) fn tags_in(alloc: Global, queue: &Queue) -> Result<Vec<Tag>, Memory>
     ensures { IfOk result (λ tags. tags.items ≡ map tag_of queue.now.items) }
 {

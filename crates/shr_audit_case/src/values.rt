@@ -1,3 +1,4 @@
+// SPDX-License-Identifier: GPL-2.0-only
 //! The values of objects that Looks found.
 
 ghost use Rattle.std.specs.Prelude.{◌≡◌, ◌++◌, OnOk};
@@ -7,14 +8,14 @@ use shr_base::memory::Memory;
 use shr_base::text::Text;
 
 /// The value of the object that a Look found, with the number of the entry, counted from 0 in its
-/// journal. Our own.
+/// journal.
 #[derive(Drop)]
 pub struct FoundValue {
     pub entry: usize,
     pub value: Text,
 }
 
-/// Notes the value that an entry met, if it met one. Our own.
+/// Notes the value that an entry met, if it met one.
 pub(crate) fn note_value(
     values: &mut Vec<FoundValue>,
     entry: usize,

@@ -1,3 +1,4 @@
+-- SPDX-License-Identifier: GPL-2.0-only
 -- The workers that may have begun the offlining of groups above others, from the root down.
 use Rattle.shr_audit_causes.proofs.OfflinesCommon.{◌≡◌, ◌≢◌, ◌⊎◌, ℕ, ◌+◌, ◌<◌, Bool, true, false, cond, List, [], ◌∷◌, ◌++◌, length, get_or, refl, sym, ap, subst, ◌∙◌, inl, inr, arith, eq-eqb, ne_eqb, ◌==◌, Decides, cases_lt, dite, ℕ_discrete, Serial, Script, Cited, Never, Often, cited_in, IsTree, parent_of, IsAtOrAbove-le, Report, parents_of, serial_of, Whose, Nobody, One, Several, BeganAbove, BeganAt, IsWhose, either, is_only, whose_of, length-append, get_or_append_left, get_or_push, Once, AreCited, AnswerCites, TellsCited, AreAbove}
 use Rattle.shr_audit_reasons.specs.declared.cites.What.TheVariants as say

@@ -1,3 +1,4 @@
+-- SPDX-License-Identifier: GPL-2.0-only
 -- Where registrations began, and where ids became idle, one entry after another.
 use Rattle.shr_audit_causes.proofs.UnregistersCommon.{◌≡◌, ℕ, zero, suc, ◌+◌, ◌<◌, ◌≤◌, Bool, true, false, cond, List, [], ◌∷◌, length, get_or, take, refl, sym, ap, subst, ◌∙◌, inl, inr, arith, eq-eqb, Registered, Idle, IsUpto, is_idle, Began, ◌++◌, length-append, set, drop, replicate, ne_eqb, length-set, get_or-set_same, get_or-set_other, ◌||◌, nat_lt, Unregistered, is_idle_entry}
 use Rattle.std.specs.List.{list_any}

@@ -1,3 +1,4 @@
+-- SPDX-License-Identifier: GPL-2.0-only
 -- What commands carried, one carry after another.
 use Rattle.shr_audit_causes.proofs.OfflinesCommon.{◌≡◌, ℕ, ◌+◌, ◌*◌, ◌%◌, ◌^◌, ◌<◌, ◌≤◌, Bool, true, false, cond, List, [], ◌∷◌, ◌++◌, length, get_or, set, take, replicate, refl, sym, ap, subst, ◌∙◌, arith, eq-eqb, ne_eqb, length-set, get_or-set_same, get_or-set_other, ◌==◌, sum_by, get_or-replicate, length-replicate, take_all, sum_by-cons, dite, ℕ_discrete, Carry, Report, answers_of, serial_of, HasCarriedSums, IsCarriedOf, carried_by, ◌/◌, filter, ◌&&◌, take_more, sum_by-append, carries_of}
 use Rattle.std.proofs.lemmas.List.Elements.{filter-append}

@@ -1,3 +1,4 @@
+-- SPDX-License-Identifier: GPL-2.0-only
 -- A valid script has few workers, of few commands each, and its groups are a tree.
 use Rattle.std.proofs.Common.{◌≡◌, ℕ, ◌≤◌, ◌^◌, [], length, get_or, map, Some, ap, ◌∙◌, arith}
 use Rattle.std.specs.Prelude.{slice_get, sum_by, option_map}

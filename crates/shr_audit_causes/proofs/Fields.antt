@@ -1,3 +1,4 @@
+-- SPDX-License-Identifier: GPL-2.0-only
 -- The law on causes, and its fields but that on replies.
 use Rattle.shr_base.specs.declared.scripts.Script.{Script}
 use Rattle.shr_laws.specs.declared.report.Report.{Report}

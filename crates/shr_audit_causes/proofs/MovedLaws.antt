@@ -1,3 +1,4 @@
+-- SPDX-License-Identifier: GPL-2.0-only
 -- Sums of moved objects, one entry and one list after another.
 use Rattle.shr_audit_causes.proofs.OfflinesCommon.{◌≡◌, ℕ, zero, suc, ◌+◌, ◌-◌, ◌*◌, ◌^◌, ◌<◌, ◌≤◌, Bool, cond, List, [], ◌∷◌, length, get_or, set, take, map, replicate, Some, refl, sym, ap, subst, ◌∙◌, arith, eq-eqb, ne_eqb, length-set, get_or-set_same, get_or-set_other, ◌==◌, min, slice_get, sum_by, get_or-replicate, length-replicate, take_all, sum_by-cons, dite, ℕ_discrete, PlaceEnd, Entry, Report, objects_moved_from, moved_of, AreCappedSums, sum_by_more, slice_get-get_or, journals_of, AreMoved}
 use Rattle.shr_base.specs.declared.places.Place.{Place}

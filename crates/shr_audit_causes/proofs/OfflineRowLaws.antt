@@ -1,3 +1,4 @@
+-- SPDX-License-Identifier: GPL-2.0-only
 -- Causes of answers to an `offline` that was done, from the parts in which they are tested.
 use Rattle.shr_audit_causes.proofs.OfflinesCommon.{◌≡◌, ◌≢◌, ℕ, ◌-◌, ◌^◌, ◌<◌, ◌≤◌, Bool, true, false, length, get_or, Option, Some, None, refl, sym, ap, subst, ◌∙◌, arith, min, option_map, Decides, IsSomeAnd, get_or_default, slice_get_past, WorkerPart, Serial, Answered, Reply, Command, Script, Report, IsOffline, MayHaveSpliced, objects_moved_from, answer_at, answers_in, answers_of, command_at, reply_at, serial_of, Whose, Nobody, BeganAbove, is_only, HasOfflineCause, IsCarriedSo, IsOfflineCausedAt, IsMoveRight, IsMovedSo, not, slice_get_within, IsAloneAt, IsOfflineDone, StandsInTree, EachAnswer, AreOfflineNotes, IsSoleSplicer, some_injective}
 use Rattle.shr_base.specs.declared.journals.TreeEntry.TheVariants.{Done}

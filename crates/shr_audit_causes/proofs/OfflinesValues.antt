@@ -1,3 +1,4 @@
+-- SPDX-License-Identifier: GPL-2.0-only
 -- What is tested of answers to an `offline` that was done, at known values.
 use Rattle.shr_audit_causes.proofs.OfflinesCommon.{◌≡◌, ℕ, zero, suc, ◌<◌, ◌≤◌, ◌^◌, ◌-◌, true, false, [], ◌∷◌, Some, None, refl, subst, arith, slice_get, IsSomeAnd, GroupDecl, Carry, IsAtOrAbove-le, IsOffline, objects_moved_from, parents_of, reply_at, serial_of, Never, Often, Nobody, One, Several, BeganAbove, BeganAt, IsWhose, either, is_only, whose_of, HasCarriedSums, IsCarriedOf, carried_by, AreCappedSums, HasOfflineCause, IsCarriedSo, IsOfflineCausedAt, IsMoveRight, IsMovedSo, AddsSpliced, AreOnlySpliced, HasSpliced, IsIn, with_spliced_group, MayHaveBegun}
 use Rattle.shr_base.specs.declared.replies.Reply.TheVariants as reply

@@ -1,3 +1,4 @@
+-- SPDX-License-Identifier: GPL-2.0-only
 -- Groups above others, also above one that isn't there, whose parent is the root.
 use Rattle.shr_audit_causes.proofs.OfflinesCommon.{◌≡◌, ◌≢◌, ℕ, ◌<◌, List, ◌∷◌, length, sym, subst, inl, inr, arith, ◌==◌, cases_lt, get_or_past, IsTree, parent_of, IsAtOrAbove-le, IsAtOrAbove-refl}
 use Rattle.shr_model.specs.Groups.{IsAtOrAbove, path_of}

@@ -1,3 +1,4 @@
+-- SPDX-License-Identifier: GPL-2.0-only
 -- Groups that may have been spliced, one command after another.
 use Rattle.shr_audit_causes.proofs.OfflinesCommon.{◌≡◌, ◌⊎◌, ℕ, ◌<◌, ◌≤◌, Bool, true, false, List, length, get_or, set, replicate, Option, Some, None, refl, sym, ap, subst, ◌∙◌, inl, inr, arith, length-set, get_or-set_same, get_or-set_other, option_map, Decides, IsSomeAnd, cases_lt, get_or-replicate, get_or_past, length-replicate, slice_get_past, dite, ℕ_discrete, WorkerPart, Answered, Reply, Command, Script, Report, IsOffline, MayHaveSpliced, answer_at, answers_in, answers_of, command_at, reply_at, serial_of, AddsSpliced, AreOnlySpliced, HasSpliced, IsIn, with_spliced_group, ◌↔◌, HasSplicedGroups, some_injective}
 use Rattle.shr_base.specs.declared.scripts.Command.TheVariants.{Offline}

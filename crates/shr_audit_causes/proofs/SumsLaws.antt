@@ -1,3 +1,4 @@
+-- SPDX-License-Identifier: GPL-2.0-only
 -- Objects that were drained, one entry and one run of lists after another.
 use Rattle.shr_audit_causes.proofs.UnregistersCommon.{◌≡◌, ℕ, zero, suc, ◌+◌, ◌-◌, ◌*◌, ◌^◌, ◌<◌, ◌≤◌, Bool, true, false, cond, List, length, get_or, take, Option, Some, refl, sym, ap, ◌∙◌, inl, inr, arith, eq-eqb, slice_get, sum_by, unwrap_or, BTreeMap, PlaceEnd, Entry, Drained, Place, Serial, Report, drained_by, journals_of, serial_of, AreSums, IsSerialKeyed, IsNothing, AreOfOnePlace, capped, drained_key, ◌≢◌, min, ◌==◌, get, Updates}
 use Rattle.std.specs.Ordering.{nat_cmp}

@@ -1,3 +1,4 @@
+-- SPDX-License-Identifier: GPL-2.0-only
 -- Groups that are a tree, by their declarations.
 use Rattle.shr_audit_causes.proofs.OfflinesCommon.{◌≡◌, ℕ, zero, suc, ◌<◌, ◌≤◌, List, ◌∷◌, length, map, Some, refl, ap, ◌∙◌, inl, inr, arith, slice_get, GroupDecl, IsTree, parent_of, get_or-map, length-map, slice_get_cases}
 

@@ -1,3 +1,4 @@
+-- SPDX-License-Identifier: GPL-2.0-only
 -- Causes of the answers to an `unregister` that drained, from the parts in which they are tested.
 use Rattle.shr_audit_causes.proofs.UnregistersCommon.{◌≡◌, ℕ, ◌<◌, ◌≤◌, Bool, true, false, [], length, Option, Some, None, refl, sym, ap, subst, ◌∙◌, arith, slice_get, Decides, Drained, Place, Serial, Script, Report, journals_of, serial_of, IsEndedSo, IsOfId, IsDrainPlaced, id_drained, id_drained_by, HasEnd, HasHalfReason, HasUnregisterCause, IsUnregisterCausedAt, as_ended, option_and_then, option_map, IsFreed, IsHalf, IsWhy, EachAnswer, EachEntry, answer_at, answers_in, answers_of, command_at, reply_at, some_injective}
 use Rattle.std.specs.Option.{IsSomeAnd}

@@ -1,3 +1,4 @@
+-- SPDX-License-Identifier: GPL-2.0-only
 -- What is tested of answers to an `unregister` that drained, at known values.
 use Rattle.shr_audit_causes.proofs.UnregistersCommon.{◌≡◌, ℕ, zero, suc, ◌+◌, ◌-◌, ◌^◌, ◌<◌, ◌≤◌, true, false, [], ◌∷◌, length, Option, Some, None, refl, sym, ap, ◌∙◌, arith, slice_get, unwrap_or, BTreeMap, PlaceEnd, Drained, Registered, Idle, serial_of, Began, IsUpto, is_idle, IsEndedSo, IsOfId, IsDrainPlaced, id_drained, id_drained_by, HasEnd, HasHalfReason, HasUnregisterCause, as_ended, AreSums, IsSerialKeyed, IsNothing, AreOfOnePlace, capped, drained_key, Closed, AreBegan, AreNotes, IsEnd, some_injective}
 use Rattle.shr_base.specs.declared.replies.HalfWhy.TheVariants as why

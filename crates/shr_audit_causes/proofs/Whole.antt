@@ -1,3 +1,4 @@
+-- SPDX-License-Identifier: GPL-2.0-only
 -- The causes of replies from their three parts.
 use Rattle.std.proofs.Common.{Bool}
 use Rattle.std.specs.Bool.{Decides}

@@ -1,3 +1,4 @@
+-- SPDX-License-Identifier: GPL-2.0-only
 -- The workers that may have begun the offlining of a group above another.
 use Rattle.std.specs.Prelude.{◌≡◌, ◌≢◌, ℕ, ◌<◌, Bool, true, false, ◌==◌, cond, List, length, slice_index_or}
 use Rattle.shr_base.specs.declared.places.Serial.{Serial}

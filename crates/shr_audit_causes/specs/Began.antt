@@ -1,3 +1,4 @@
+-- SPDX-License-Identifier: GPL-2.0-only
 -- Where registrations began, and where ids became idle last. No public clause of the law cites this.
 use Rattle.std.specs.Prelude.{◌≡◌, ℕ, ◌<◌, ◌≤◌, nat_lt, Bool, true, false, List, length, get_or, take, drop}
 use Rattle.std.specs.List.{list_any}

@@ -1,3 +1,4 @@
+-- SPDX-License-Identifier: GPL-2.0-only
 -- How much each command of a worker carried.
 use Rattle.std.specs.Prelude.{◌≡◌, ℕ, ◌<◌, ◌%◌, ◌^◌, List, length, filter, get_or, sum_by}
 use Rattle.shr_base.specs.declared.walks.Carry.{Carry}

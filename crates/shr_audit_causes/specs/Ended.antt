@@ -1,3 +1,4 @@
+-- SPDX-License-Identifier: GPL-2.0-only
 -- What an `unregister` that drained says, but for the places that it drained.
 use Rattle.std.specs.Prelude.{◌≡◌, ℕ, Bool, take, slice_get, Some}
 use Rattle.shr_base.specs.declared.journals.PoolEntry.TheVariants.{Unregistered}

@@ -1,3 +1,4 @@
+-- SPDX-License-Identifier: GPL-2.0-only
 pub mod Rows
 pub mod Above
 pub mod Carried

@@ -1,3 +1,4 @@
+-- SPDX-License-Identifier: GPL-2.0-only
 -- Causes of answers to an `offline` that was done, in the parts in which they are tested.
 use Rattle.std.specs.Prelude.{◌≡◌, ◌≢◌, ℕ, ◌%◌, ◌^◌, ◌≤◌, Option, Some, ⊤, sum_by}
 use Rattle.std.specs.Option.{IsSomeAnd}

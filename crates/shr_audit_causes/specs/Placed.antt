@@ -1,3 +1,4 @@
+-- SPDX-License-Identifier: GPL-2.0-only
 -- Which id a command drained by its answer.
 use Rattle.std.specs.Prelude.{◌≡◌, ℕ, Option, Some, None, option_and_then, ⊤}
 use Rattle.shr_base.specs.declared.journals.Entry.{Entry}

@@ -1,3 +1,4 @@
+-- SPDX-License-Identifier: GPL-2.0-only
 -- The field of the law on causes that is about replies.
 use Rattle.shr_base.specs.declared.scripts.Script.{Script}
 use Rattle.shr_laws.specs.declared.report.Report.{Report}

@@ -1,3 +1,4 @@
+-- SPDX-License-Identifier: GPL-2.0-only
 -- The groups whose lists an `offline` may have spliced and told of none.
 use Rattle.std.specs.Prelude.{◌≡◌, ℕ, ◌<◌, ◌↔◌, true, false, Bool, List, length, get_or, slice_set, Option, Some, None}
 use Rattle.shr_base.specs.declared.places.Serial.{Serial}

@@ -1,3 +1,4 @@
+-- SPDX-License-Identifier: GPL-2.0-only
 -- How many objects each command drained. No clause of the law cites this.
 use Rattle.std.specs.Prelude.{◌≡◌, ℕ, ◌+◌, ◌*◌, ◌-◌, ◌^◌, ◌<◌, ◌≤◌, List, length, min, slice_get, Some, None, unwrap_or}
 use Rattle.std.specs.BTreeMap.{BTreeMap, get}

@@ -1,3 +1,4 @@
+-- SPDX-License-Identifier: GPL-2.0-only
 -- Causes of the answers to an `unregister` that drained, in the parts in which they are tested.
 use Rattle.std.specs.Prelude.{◌≡◌, ℕ, true, false, Some, ⊤}
 use Rattle.std.specs.Option.{IsSomeAnd}

@@ -1,3 +1,4 @@
+// SPDX-License-Identifier: GPL-2.0-only
 //! The workers that may have begun the offlining of a group above another.
 
 ghost use Rattle.std.specs.Prelude.{◌≡◌, ◌<◌, length, slice_index_or, IfOk};
@@ -15,7 +16,7 @@ use shr_base::scripts::Script;
 use shr_laws::report::Report;
 use std::alloc::Global;
 
-/// The workers of which something is so: none, just one, or more. Our own.
+/// The workers of which something is so: none, just one, or more.
 #[derive(Clone, Copy, Debug, PartialEq, Eq)]
 pub(crate) enum Whose {
     Nobody,
@@ -55,7 +56,7 @@ fn either(a: Whose, b: Whose) -> Whose
     }
 }
 
-/// Whether it is so of no other worker. Our own.
+/// Whether it is so of no other worker.
 pub(crate) fn is_only(whose: Whose, worker: usize) -> bool
     ensures { result ≡ is_only whose worker }
 {
@@ -87,7 +88,7 @@ fn next_of(above: &Vec<Whose>, begun: &[Cited], parent: usize) -> Whose
 }
 
 /// The workers that may have begun the offlining of a group above another, for each of 65,536
-/// groups. It goes through the answers once, and then from the root down. Our own.
+/// groups. It goes through the answers once, and then from the root down.
 pub(crate) fn above_of(
     alloc: Global,
     script: &Script,

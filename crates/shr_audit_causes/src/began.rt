@@ -1,3 +1,4 @@
+// SPDX-License-Identifier: GPL-2.0-only
 //! Where registrations began, and where ids became idle last.
 
 ghost use Rattle.std.specs.Prelude.{◌≡◌, ◌+◌, ◌<◌, ◌≤◌, length, take, replicate, IfOk, OnOk};
@@ -12,7 +13,7 @@ use std::alloc::Global;
 
 /// For each entry of the journal of registrations the number where the last registration of its id
 /// before it began; and for each id how many entries there are up to the last by which it became
-/// idle, 0 where there is none. Our own.
+/// idle, 0 where there is none.
 #[derive(Drop)]
 pub struct Began {
     pub froms: Vec<u32>,
@@ -101,7 +102,7 @@ impl Began {
         Ok(())
     }
 
-    /// Those of a report. Our own.
+    /// Those of a report.
     pub fn of(alloc: Global, report: &Report) -> Result<Began, Memory>
         ensures { IfOk result (λ b. AreBegan report.now b) }
     {
@@ -112,7 +113,7 @@ impl Began {
         Ok(began)
     }
 
-    /// Whether an id became idle behind an entry. Our own.
+    /// Whether an id became idle behind an entry.
     pub fn became_idle(&self, report: &Report, id: u16, entry: u32) -> bool
         requires { AreBegan report.now self.now }
         ensures { result ≡ became_idle report.now id entry }

@@ -1,3 +1,4 @@
+// SPDX-License-Identifier: GPL-2.0-only
 //! How much each command of a worker carried.
 
 ghost use Rattle.std.specs.Prelude.{◌≡◌, ◌∷◌, [], ◌++◌, List, length, replicate, IfOk};
@@ -45,7 +46,7 @@ fn note(carried: &mut Vec<u64>, worker: usize, carry: &Carry)
     }
 }
 
-/// How much each command of a worker that has an answer carried, modulo 2^64. Our own.
+/// How much each command of a worker that has an answer carried, modulo 2^64.
 pub(crate) fn carried_of(alloc: Global, report: &Report, worker: usize) -> Result<Vec<u64>, Memory>
     ensures { IfOk result (λ carried. IsCarriedOf report.now worker carried.items) }
 {

@@ -1,3 +1,4 @@
+// SPDX-License-Identifier: GPL-2.0-only
 //! What an `unregister` that drained says of its entry and its objects.
 
 ghost use Rattle.std.specs.Prelude.{◌≡◌, ◌<◌, length, slice_get, Some, IfOk};
@@ -22,7 +23,7 @@ use shr_laws::report::Report;
 use std::alloc::Global;
 use std::collections::BTreeMap;
 
-/// What its answer says. Our own.
+/// What its answer says.
 #[derive(Clone, Copy, Debug, PartialEq, Eq)]
 pub struct Ended {
     pub id: u16,
@@ -33,7 +34,7 @@ pub struct Ended {
 }
 
 /// What is noted once of a report: where registrations began, and how many objects each command
-/// drained. Our own.
+/// drained.
 #[derive(Drop)]
 pub struct Notes {
     pub began: Began,
@@ -41,7 +42,7 @@ pub struct Notes {
 }
 
 impl Notes {
-    /// Notes it. Our own.
+    /// Notes it.
     pub fn of(alloc: Global, report: &Report) -> Result<Notes, Memory>
         requires { AreInOrder report.now.places.items }
         ensures { IfOk result (λ n. AreNotes report.now n) }
@@ -85,7 +86,7 @@ fn is_end(report: &Report, notes: &Notes, by: Serial, decl: u8, ended: Ended) ->
     drained == ended.objects as u64
 }
 
-/// Whether a command of a declaration ended so, with its id idle afterwards or not. Our own.
+/// Whether a command of a declaration ended so, with its id idle afterwards or not.
 pub fn is_ended_so(
     report: &Report,
     notes: &Notes,
@@ -106,7 +107,7 @@ pub fn is_ended_so(
     is_end(report, notes, by, decl, ended)
 }
 
-/// Whether a worker had a reason to stop half way. Our own.
+/// Whether a worker had a reason to stop half way.
 pub fn is_why(
     script: &Script,
     report: &Report,

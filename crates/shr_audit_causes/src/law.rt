@@ -1,3 +1,4 @@
+// SPDX-License-Identifier: GPL-2.0-only
 //! The law on causes.
 
 ghost use Rattle.std.specs.Prelude.{IfOk};
@@ -36,7 +37,7 @@ fn are_rows_caused(alloc: Global, script: &Script, report: &Report) -> Result<bo
 
 /// Whether each answer, attempt, pass and entry of a well formed report has its cause in it, and no
 /// worker knows less than it knew before: the law on causes. The script is valid. `Memory` is want of
-/// memory alone. Our own.
+/// memory alone.
 pub fn are_causes_lawful(alloc: Global, script: &Script, report: &Report) -> Result<bool, Memory>
     requires valid { IsValid (content_of script.now) }
     requires well { IsWellFormed report.now }

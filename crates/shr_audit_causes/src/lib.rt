@@ -1,8 +1,5 @@
-//! Whether the law on causes holds of a report. Our own.
-//!
-//! The causes of the answers to an `offline` that was done. Our own.
-//!
-//! The causes of the answers to an `unregister` that drained. Our own.
+// SPDX-License-Identifier: GPL-2.0-only
+//! Whether the law on causes holds of a report: the answers to `offline` and to `unregister` included.
 #![tactic(auto)]
 
 mod above;

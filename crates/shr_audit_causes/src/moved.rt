@@ -1,3 +1,4 @@
+// SPDX-License-Identifier: GPL-2.0-only
 //! How many objects were moved from each group.
 
 ghost use Rattle.std.specs.Prelude.{◌≡◌, ℕ, ◌+◌, ◌*◌, ◌≤◌, ◌<◌, ◌==◌, cond, length, replicate, slice_get, sum_by, Some, IfOk};
@@ -74,7 +75,7 @@ fn run_end(ends: &[PlaceEnd], from: usize, place: Place) -> usize
 }
 
 /// How many objects were moved from each of 65,536 groups. A list that is printed twice counts
-/// twice, as the law has it, and is read once. Our own.
+/// twice, as the law has it, and is read once.
 pub(crate) fn moved_of(alloc: Global, report: &Report) -> Result<Vec<u128>, Memory>
     requires { AreInOrder report.now.places.items }
     ensures { IfOk result (λ moved. AreMoved report.now moved.items) }

@@ -1,3 +1,4 @@
+// SPDX-License-Identifier: GPL-2.0-only
 //! Answers to an `offline` that was done, against what they came from.
 
 ghost use Rattle.std.specs.Prelude.{ℕ, ◌<◌, length, IfOk};
@@ -23,7 +24,7 @@ use std::alloc::Global;
 
 /// What is noted once of a script and a report: by groups, how many objects were moved from each,
 /// whether an `offline` may have spliced its lists and told of none, and which workers may have begun
-/// the offlining of a group above it. Our own.
+/// the offlining of a group above it.
 #[derive(Drop)]
 pub(crate) struct Notes {
     moved: Vec<u128>,
@@ -31,7 +32,7 @@ pub(crate) struct Notes {
     above: Vec<Whose>,
 }
 
-/// Notes it. Our own.
+/// Notes it.
 pub(crate) fn noted(alloc: Global, script: &Script, report: &Report) -> Result<Notes, Memory>
     requires tree { IsTree (parents_of script.now) }
     requires order { AreInOrder report.now.places.items }
@@ -172,7 +173,7 @@ fn is_worker_caused(
     Ok(true)
 }
 
-/// Whether each answer has. Our own.
+/// Whether each answer has.
 pub(crate) fn are_caused(
     alloc: Global,
     script: &Script,

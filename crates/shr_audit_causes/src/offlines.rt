@@ -1,3 +1,4 @@
+// SPDX-License-Identifier: GPL-2.0-only
 //! Whether each answer to an `offline` that was done has its cause in the report.
 
 ghost use Rattle.std.specs.Prelude.{IfOk};
@@ -14,8 +15,7 @@ use shr_laws::report::Report;
 use std::alloc::Global;
 
 /// Whether each answer to an `offline` that was done has its cause in the report: its Done, what it
-/// carried, and the objects that were moved from its group. `Memory` is want of memory alone. Our
-/// own.
+/// carried, and the objects that were moved from its group. `Memory` is want of memory alone.
 pub fn are_offlines_caused(alloc: Global, script: &Script, report: &Report) -> Result<bool, Memory>
     requires tree { IsTree (parents_of script.now) }
     requires order { AreInOrder report.now.places.items }

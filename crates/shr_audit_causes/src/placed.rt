@@ -1,3 +1,4 @@
+// SPDX-License-Identifier: GPL-2.0-only
 //! Whether lists were drained by commands that drained their ids.
 
 ghost use Rattle.std.specs.Prelude.{◌≡◌, true};
@@ -104,7 +105,7 @@ fn are_lists_placed(script: &Script, report: &Report, ends: &[PlaceEnd]) -> bool
     true
 }
 
-/// Whether each list that a command drained is of the id that its answer tells of. Our own.
+/// Whether each list that a command drained is of the id that its answer tells of.
 pub fn are_drains_placed(script: &Script, report: &Report) -> bool
     requires { AreInOrder report.now.places.items }
     ensures { Decides result (EachEntry report.now

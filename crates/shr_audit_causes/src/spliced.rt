@@ -1,3 +1,4 @@
+// SPDX-License-Identifier: GPL-2.0-only
 //! The groups whose lists an `offline` may have spliced and told of none.
 
 ghost use Rattle.std.specs.Prelude.{◌≡◌, ℕ, ◌↔◌, Some, replicate, false, IfOk};
@@ -83,7 +84,7 @@ fn note_worker(spliced: &mut Vec<bool>, script: &Script, report: &Report, worker
     }
 }
 
-/// The groups, of 65,536, whose lists an `offline` may have spliced and told of none. Our own.
+/// The groups, of 65,536, whose lists an `offline` may have spliced and told of none.
 pub(crate) fn spliced_of(
     alloc: Global,
     script: &Script,

@@ -1,3 +1,4 @@
+// SPDX-License-Identifier: GPL-2.0-only
 //! How many objects each command drained.
 
 ghost use Rattle.std.specs.Prelude.{◌≡◌, ℕ, ◌+◌, ◌*◌, ◌<◌, cond, length, sum_by, unwrap_or, IfOk, OnOk};
@@ -41,7 +42,7 @@ fn sum_at(sums: &BTreeMap<u64, u64>, key: u64) -> u64
     sums.get(&key).copied().unwrap_or(0)
 }
 
-/// How many objects a command drained, 2^64 - 1 where there are more. Our own.
+/// How many objects a command drained, 2^64 - 1 where there are more.
 pub fn drained_in(sums: &BTreeMap<u64, u64>, by: Serial) -> u64
     ensures { (total : Serial → ℕ) → AreSums sums.now total → result ≡ capped (total by) }
 {
@@ -108,7 +109,7 @@ fn run_end(ends: &[PlaceEnd], k: usize) -> usize
 }
 
 /// How many objects each command drained by the lists of a report. A list counts as often as its
-/// place is printed, as the law has it, and is gone through once. Our own.
+/// place is printed, as the law has it, and is gone through once.
 pub fn sums_of(alloc: Global, report: &Report) -> Result<BTreeMap<u64, u64>, Memory>
     requires { AreInOrder report.now.places.items }
     ensures { IfOk result (λ sums. AreSums sums (drained_of report.now)) }

@@ -1,3 +1,4 @@
+// SPDX-License-Identifier: GPL-2.0-only
 //! The answers to an `unregister` that drained, against what they came from.
 
 ghost use Rattle.std.specs.Prelude.{ℕ, ◌<◌, length};
@@ -134,7 +135,7 @@ fn is_worker_caused(
     true
 }
 
-/// Whether each answer has. Our own.
+/// Whether each answer has.
 pub fn are_caused(script: &Script, report: &Report, counted: &Counted, notes: &Notes) -> bool
     requires few { AreFew script.now.workers.items }
     requires order { AreInOrder report.now.places.items }

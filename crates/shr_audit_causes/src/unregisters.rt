@@ -1,3 +1,4 @@
+// SPDX-License-Identifier: GPL-2.0-only
 //! The answers to an `unregister` that drained, with the lists that it drained.
 
 ghost use Rattle.std.specs.Prelude.{IfOk};
@@ -19,7 +20,7 @@ use std::alloc::Global;
 
 /// Whether each answer to an `unregister` that drained has its cause in the report: its entry, where
 /// its registration began, what its command drained and of which id, whether the id is idle
-/// afterwards, and why it stopped half way. `Memory` is want of memory alone. Our own.
+/// afterwards, and why it stopped half way. `Memory` is want of memory alone.
 pub fn are_unregisters_caused(
     alloc: Global,
     script: &Script,

@@ -1,3 +1,4 @@
+-- SPDX-License-Identifier: GPL-2.0-only
 -- When keys that go up and keys that go down settle.
 use Rattle.shr_audit_charges.proofs.Common.{◌≡◌, ◌≢◌, ℕ, ◌<◌, ◌%◌, ◌^◌, ◌⊎◌, inl, inr, Bool, true, false, cond, List, [], ◌∷◌, ◌++◌, length, map, refl, sym, ap, subst, ◌∙◌, arith, ne_eqb, ◌==◌, Decides, AllByRecursion, cases_eq, count_by-le-length, sum_by-cons, sum_by-append, Move, AreBalanced, unit, ◌↔◌}
 use Rattle.shr_audit_case.specs.Moves.{sum_up_at, sum_down_at, IsSettled}

@@ -1,3 +1,4 @@
+-- SPDX-License-Identifier: GPL-2.0-only
 -- What is asked of charges, at known values.
 use Rattle.shr_audit_charges.proofs.Common.{◌≡◌, ℕ, ◌-◌, ◌≤◌, Bool, true, false, List, [], ◌∷◌, Some, None, refl, arith, pos, Begin, Made, UseStep, AreBalanced, AreCharged, with_use, usage_of, group_uses, IsWithinLimit, Serial, AreWorkersFew, answer_keys, by_keys, charge_keys, MayStandBefore, limit_in, own_key, own_in_group, path_keys, start_of, hierarchy, state_of_group, down_keys, up_keys, ℤ, FoundSo}
 use Rattle.shr_model.specs.Groups.{path_within}

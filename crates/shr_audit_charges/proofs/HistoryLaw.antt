@@ -1,3 +1,4 @@
+-- SPDX-License-Identifier: GPL-2.0-only
 -- What the operations of each group come to after one more, and when it may follow.
 use Rattle.shr_audit_charges.proofs.Common.{◌≡◌, ◌≢◌, ℕ, ◌+◌, ◌<◌, ◌≤◌, ◌⊎◌, inl, inr, Bool, true, false, not, cond, List, [], ◌∷◌, ◌++◌, length, get_or, set, take, drop, Option, Some, None, refl, sym, ap, subst, ◌∙◌, arith, ne_eqb, eq-eqb, ◌==◌, slice_get, cases_eq, length_push, take_more, take_all, length-set, length-take-le, count_by-le-length, sum_by-append, slice_get-get_or, slice_get_within, UseStep, ups, downs, Usage, group_uses, AreCharged, usage_of, AreUsagesOf, AreNone, with_use, length-filter, IsNextUse, IsChargeHistory, IsNextOfGroup, usage_with, put_usage, all_push, some_injective}
 use Rattle.shr_audit_charges.proofs.Pushed.{push_each, here_each, all_here, split_at, filter_in, filter_here, set_own, set_other}

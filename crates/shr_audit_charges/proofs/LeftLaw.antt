@@ -1,3 +1,4 @@
+-- SPDX-License-Identifier: GPL-2.0-only
 -- The keys of operations and of objects that are left, counted by their groups.
 use Rattle.shr_audit_charges.proofs.Common.{◌≡◌, ◌≢◌, ℕ, ◌+◌, ◌/◌, ◌<◌, ◌≤◌, ◌⊎◌, inl, inr, Bool, true, false, not, cond, List, [], ◌∷◌, ◌++◌, length, map, refl, sym, ap, subst, ◌∙◌, arith, ne_eqb, eq-eqb, ◌==◌, flat_map, sum_by, Decides, AllByRecursion, cases_eq, cases_lt, Decides-like, ints, sum_by-cons, PlaceEnd, UseStep, Object, Serial, ups, downs, is_at_or_above, born_below, IsTree, path_of, Report, journals_of, AreBalanced, group_uses, tag_keys, left_keys, AreFinal, own_key, keys_with, start_of, up_keys, down_keys, items_of, left_below, all_both}
 use Rattle.shr_audit_case.specs.Tags.{tag_of}

@@ -1,3 +1,4 @@
+-- SPDX-License-Identifier: GPL-2.0-only
 -- What each command charged and freed, counted by its keys.
 use Rattle.shr_audit_charges.proofs.Common.{◌≡◌, ◌≢◌, ℕ, zero, suc, ◌+◌, ◌<◌, ◌≤◌, ◌^◌, ◌⊎◌, inl, inr, Bool, true, false, not, ◌&&◌, cond, List, [], ◌∷◌, ◌++◌, length, map, take, Option, Some, None, refl, sym, ap, ◌∙◌, arith, ne_eqb, eq-eqb, ◌==◌, flat_map, sum_by, slice_get, option_map, option_and_then, AllByRecursion, enumerate_from, cases_eq, sum_by-cons, PlaceEnd, Entry, UseStep, Object, Place, Serial, Answered, Reply, Command, WorkerScript, is_serial, items_at, Freeing, freeings_at, is_at_or_above, born_below, IsTree, path_of, freed_by, Report, charged, freed_in_command, is_of, IsUseNumbered, answer_at, commands_in, entry_by, journals_of, reply_at, serial_of, by_keys, freed_keys, place_keys, charge_keys, answer_keys, commands_keys, workers_keys, own_key, keys_with, path_keys, start_of, lists_moved_at}
 use Rattle.std.proofs.lemmas.List.Concat.{flat_map-append}

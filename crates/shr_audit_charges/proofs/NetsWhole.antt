@@ -1,3 +1,4 @@
+-- SPDX-License-Identifier: GPL-2.0-only
 -- The law on what each command's operations come to, against the keys that go up and down.
 use Rattle.shr_audit_charges.proofs.Common.{◌≡◌, ℕ, suc, ◌+◌, ◌-◌, ◌/◌, ◌%◌, ◌<◌, ◌≤◌, ◌^◌, ◌⊎◌, inl, inr, Bool, true, false, cond, List, [], ◌∷◌, ◌++◌, length, map, Option, Some, None, refl, sym, ap, subst, ◌∙◌, arith, pos, find, flat_map, sum_by, slice_get, nat_lt, option_map, option_and_then, Decides, AllByRecursion, enumerate_from, cases_lt, nat_tests, Decides-like, ints, sum_by-cons, slice_get_past, slice_get_within, PlaceEnd, Entry, UseStep, Place, Serial, Answered, Reply, Command, Script, WorkerScript, ups, downs, is_serial, Freeing, freeings_at, born_below, items_at, IsTree, freed_by, FreedTag, Report, charged, freed_in_command, is_of, IsUseNumbered, answer_at, commands_in, entry_by, journals_of, parents_of, reply_at, serial_of, AreBalanced, AreWorkersFew, AreNets, by_keys, freed_keys, place_keys, answer_keys, commands_keys, workers_keys, up_keys, down_keys, ◌-ℤ◌, usage_after, HasNumbers, IsEntryNumbered, IsIsolationNumbered, IsListNumbered, IsPartNumbered, IsWalkNumbered, command_at, isolations_in, journal_of, walks_in, all_both, some_injective}
 use Rattle.shr_base.specs.declared.ends.WorkerPart.{WorkerPart}

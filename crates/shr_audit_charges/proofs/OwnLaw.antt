@@ -1,3 +1,4 @@
+-- SPDX-License-Identifier: GPL-2.0-only
 -- What each command did in each group, operation by operation from the last.
 use Rattle.shr_audit_charges.proofs.Common.{◌≡◌, ◌≢◌, ℕ, zero, suc, ◌+◌, ◌-◌, ◌<◌, ◌≤◌, ◌⊎◌, inl, inr, Bool, true, false, not, ◌&&◌, cond, List, [], ◌∷◌, length, get_or, map, drop, Option, Some, None, refl, sym, ap, subst, ◌∙◌, arith, ne_eqb, eq-eqb, pos, filter, find, slice_get, cases_eq, nat_tests, Serial, UseStep, ups, group_uses, limit_in, AreOwnRight, own_key, MayStandBefore, own_in_group, T, int_lt, MatchOption, at_drop_all, drop_more, ops_by, is_by, is_refused, IsBelow, IsDownNext, AreTakenBack, IsDownBetween, IsKeyed, few_ups, own_with, some_injective}
 use Rattle.std.specs.BTreeMap.{BTreeMap, get, is_at, Updates}

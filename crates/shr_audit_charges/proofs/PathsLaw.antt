@@ -1,3 +1,4 @@
+-- SPDX-License-Identifier: GPL-2.0-only
 -- Climbing from a group to the root, and how often each group is met.
 use Rattle.shr_audit_charges.proofs.Common.{◌≡◌, ◌≢◌, ℕ, zero, suc, ◌+◌, ◌/◌, ◌<◌, ◌≤◌, ◌^◌, ◌⊎◌, inl, inr, Bool, true, false, ◌||◌, cond, List, [], ◌∷◌, ◌++◌, length, refl, sym, ap, subst, ◌∙◌, arith, ne_eqb, eq-eqb, ◌==◌, nat_lt, AllByRecursion, cases_eq, cases_lt, nat_tests, sum_by-cons, sum_by-append, Serial, is_at_or_above, IsTree, parent_of, path_of, own_key, start_of, keys_with, path_keys, append_assoc, count_by, list_any, get_or_past}
 use Rattle.shr_model.specs.Groups.{path_within}

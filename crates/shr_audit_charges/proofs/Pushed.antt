@@ -1,3 +1,4 @@
+-- SPDX-License-Identifier: GPL-2.0-only
 -- Lists with one item more at the end, and what is so of each item and those before it.
 use Rattle.shr_audit_charges.proofs.Common.{◌≡◌, ◌≢◌, ℕ, zero, suc, ◌+◌, ◌<◌, ◌≤◌, Bool, true, cond, List, [], ◌∷◌, ◌++◌, length, get_or, set, take, drop, Option, Some, None, refl, sym, ap, subst, ◌∙◌, arith, ◌⊎◌, inl, inr, filter, slice_get, AllByRecursion, cases_lt, length-set, slice_get-get_or, slice_get_past, take-append-drop, at_drop_more, get_or-set_same, get_or-set_other, all_push, some_injective}
 use Rattle.std.proofs.lemmas.List.Elements.{filter-append}

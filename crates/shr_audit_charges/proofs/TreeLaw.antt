@@ -1,3 +1,4 @@
+-- SPDX-License-Identifier: GPL-2.0-only
 -- What the journal of the tree says of each group after one entry more, and when it may follow.
 use Rattle.shr_audit_charges.proofs.Common.{◌≡◌, ◌≢◌, ℕ, zero, suc, ◌+◌, ◌<◌, ◌≤◌, ◌⊎◌, inl, inr, Bool, true, false, not, ◌&&◌, ◌||◌, cond, List, [], ◌∷◌, ◌++◌, length, get_or, set, take, drop, Option, Some, None, refl, sym, ap, subst, ◌∙◌, arith, ne_eqb, eq-eqb, find, slice_get, cases_eq, take_more, take_all, length-set, length_push, get_or_default, slice_get-get_or, slice_get_within, Begin, Made, IsTree, parent_of, IsTreeJournal, hierarchy, state_of_group, AreGroupStatesOf, IsUndone, ⊎_elim, is_some, is_none, position_from, range_with_len, eqb-true, Done, Hierarchy, is_child, is_later, some_injective}
 use Rattle.shr_base.specs.declared.journals.TreeEntry.{TreeEntry}

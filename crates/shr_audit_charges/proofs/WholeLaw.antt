@@ -1,3 +1,4 @@
+-- SPDX-License-Identifier: GPL-2.0-only
 -- The law on charges from its parts.
 use Rattle.shr_audit_charges.proofs.Common.{◌≡◌, ℕ, ◌+◌, ◌-◌, ◌<◌, ◌≤◌, ◌⊎◌, inl, inr, Bool, true, false, List, length, get_or, Option, Some, None, sym, ap, subst, arith, slice_get, option_and_then, Decides, cases_lt, ints, slice_get-get_or, slice_get_past, slice_get_within, UseStep, GroupDecl, Script, ups, downs, Report, parents_of, Usage, AreCharged, AreUsagesOf, group_uses, AreFinal, AreWithin, AreNets, AreOwnRight, IfSome, length-map, AreChargesLawful, listed_below, later_of, limit_of, limits_of, AreUpsOfPuts}
 use Rattle.shr_audit_charges.specs.Law.{AreUsesLawful, IsTreeLawful}

@@ -1,3 +1,4 @@
+-- SPDX-License-Identifier: GPL-2.0-only
 -- The keys of commands and of workers, one more.
 use Rattle.shr_audit_charges.proofs.Common.{◌≡◌, ℕ, suc, ◌+◌, ◌<◌, ◌≤◌, List, [], ◌∷◌, ◌++◌, length, get_or, take, sym, ap, ◌∙◌, arith, length-take-le, take_all, take_more, Command, WorkerScript, Report, answer_at, serial_of, answer_keys, commands_keys, workers_keys}
 use Rattle.std.proofs.lemmas.List.{append_assoc, append-nil}

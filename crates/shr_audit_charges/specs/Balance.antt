@@ -1,3 +1,4 @@
+-- SPDX-License-Identifier: GPL-2.0-only
 -- Keys that go up and keys that go down.
 use Rattle.std.specs.Prelude.{◌≡◌, ℕ, Bool, ◌==◌, cond, List, count_by}
 use Rattle.shr_audit_case.specs.declared.moves.Move.{Move}

@@ -1,3 +1,4 @@
+-- SPDX-License-Identifier: GPL-2.0-only
 -- The operations of each group, and what they come to.
 use Rattle.std.specs.Prelude.{◌≡◌, ℕ, ℤ, pos, ◌+◌, ◌-ℤ◌, ◌<◌, Bool, cond, ◌==◌, List, length, filter, slice_get, slice_set, Option, Some, None}
 use Rattle.std.specs.List.{AllByRecursion}

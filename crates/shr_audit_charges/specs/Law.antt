@@ -1,3 +1,4 @@
+-- SPDX-License-Identifier: GPL-2.0-only
 -- The law on charges, in the parts in which it is tested.
 use Rattle.std.specs.Prelude.{ℕ, ◌≤◌, length, IfSome}
 use Rattle.shr_base.specs.declared.scripts.Script.{Script}

@@ -1,3 +1,4 @@
+-- SPDX-License-Identifier: GPL-2.0-only
 -- What is left at the end, and the limits of groups.
 use Rattle.std.specs.Prelude.{◌≡◌, ℕ, pos, ◌-◌, ◌<◌, ◌≤◌, List, length, map, flat_map, sum_by, slice_get, Option, Some, IfSome}
 use Rattle.shr_base.specs.declared.places.Place.{Place}

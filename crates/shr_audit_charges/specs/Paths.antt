@@ -1,3 +1,4 @@
+-- SPDX-License-Identifier: GPL-2.0-only
 -- The groups at or above another, each with a command by one number.
 use Rattle.std.specs.Prelude.{ℕ, nat_lt, cond, List, length, map}
 use Rattle.shr_base.specs.declared.places.Serial.{Serial}

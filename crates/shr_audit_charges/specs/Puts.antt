@@ -1,3 +1,4 @@
+-- SPDX-License-Identifier: GPL-2.0-only
 -- Operations that go up, and whether they are of puts.
 use Rattle.std.specs.Prelude.{◌≡◌, true, List}
 use Rattle.std.specs.Option.{IsSomeAnd}

@@ -1,3 +1,4 @@
+-- SPDX-License-Identifier: GPL-2.0-only
 -- The journal of the tree, by what it says of each group.
 use Rattle.std.specs.Prelude.{◌≡◌, ℕ, ◌<◌, Bool, true, false, not, List, length, slice_get, slice_set, Option, Some, None, is_some}
 use Rattle.shr_base.specs.declared.journals.TreeEntry.{TreeEntry}

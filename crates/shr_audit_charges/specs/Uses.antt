@@ -1,3 +1,4 @@
+-- SPDX-License-Identifier: GPL-2.0-only
 -- The keys of operations.
 use Rattle.std.specs.Prelude.{ℕ, Bool, cond, List, [], ◌∷◌}
 use Rattle.shr_base.specs.declared.journals.UseStep.{UseStep}

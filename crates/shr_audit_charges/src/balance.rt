@@ -1,3 +1,4 @@
+// SPDX-License-Identifier: GPL-2.0-only
 //! Keys that go up and keys that go down, and whether each does so equally often.
 
 ghost use Rattle.std.specs.Prelude.{◌≡◌, ◌++◌, ◌<◌, ◌^◌, map, length, OnOk, IfOk};
@@ -44,7 +45,7 @@ fn are_few(keys: &[u64])
     let _count = keys.len();
 }
 
-/// Whether each key goes up as often as it goes down. It sorts all of them once. Our own.
+/// Whether each key goes up as often as it goes down. It sorts all of them once.
 pub fn are_balanced(alloc: Global, ups: &[u64], downs: &[u64]) -> Result<bool, Memory>
     ensures { IfOk result (λ b. Decides b (AreBalanced ups.now downs.now)) }
 {

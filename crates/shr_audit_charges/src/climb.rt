@@ -1,3 +1,4 @@
+// SPDX-License-Identifier: GPL-2.0-only
 //! The groups at or above another, each with a command by one number.
 
 ghost use Rattle.std.specs.Prelude.{◌≡◌, ◌++◌, ◌<◌, length, OnOk};
@@ -8,7 +9,7 @@ ghost use Rattle.shr_audit_charges.specs.Paths.{path_keys, start_of};
 use shr_base::memory::Memory;
 use shr_base::places::Serial;
 
-/// A command in a group, by one number. Our own.
+/// A command in a group, by one number.
 pub fn own_key(group: u16, worker: u16, command: u32) -> u64
     ensures key { result ≡ own_key group worker command }
     ensures keyed { IsKeyed group worker command }
@@ -27,7 +28,7 @@ fn start_of(parents: &[u16], group: u16) -> u16
     }
 }
 
-/// Adds a command in each group that is at or above another. Our own.
+/// Adds a command in each group that is at or above another.
 pub fn note_path(keys: &mut Vec<u64>, parents: &[u16], birth: u16, by: Serial) -> Result<(), Memory>
     requires { IsTree parents.now }
     ensures { OnOk result (keys.new.items ≡ keys.old.items ++ path_keys parents.now by birth) }

@@ -1,3 +1,4 @@
+// SPDX-License-Identifier: GPL-2.0-only
 //! The operations of each group: whether they are its charge history, and what they come to.
 
 ghost use Rattle.std.specs.Prelude.{◌≡◌, ℕ, ◌+◌, ◌-◌, ◌<◌, ◌^◌, Some, slice_get, length, IfOk, IfSome, IfNone};
@@ -9,7 +10,7 @@ use shr_base::journals::UseStep;
 use shr_base::memory::Memory;
 use std::alloc::Global;
 
-/// What operations of a group come to: so many went up, so many down. Our own.
+/// What operations of a group come to: so many went up, so many down.
 #[derive(Clone, Copy, Debug, PartialEq, Eq)]
 pub struct Usage {
     pub ups: u64,
@@ -80,7 +81,7 @@ fn first_usages(alloc: Global, groups: usize) -> Result<Vec<Usage>, Memory>
 
 /// What the operations of each of so many groups come to, or `None` if one of them is of no such
 /// group, or isn't the next of its group: numbered from 0, each once, and each finding the ups less
-/// the downs before it. Our own.
+/// the downs before it.
 pub fn replay_uses(
     alloc: Global,
     groups: usize,

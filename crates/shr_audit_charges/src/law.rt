@@ -1,3 +1,4 @@
+// SPDX-License-Identifier: GPL-2.0-only
 //! The law on charges, field by field.
 
 ghost use Rattle.std.specs.Prelude.{◌≡◌, IfOk};
@@ -92,8 +93,7 @@ fn are_uses_lawful(
     Ok(within)
 }
 
-/// Whether the charges of a report are lawful for a script. `Memory` is want of memory alone. Our
-/// own.
+/// Whether the charges of a report are lawful for a script. `Memory` is want of memory alone.
 pub fn are_charges_lawful(
     alloc: Global,
     case: &Case,

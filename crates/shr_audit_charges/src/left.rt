@@ -1,3 +1,4 @@
+// SPDX-License-Identifier: GPL-2.0-only
 //! What is left at the end: whether the final usage of each group is the number of the objects that
 //! are listed at or below it, and isn't above its limit.
 
@@ -62,7 +63,7 @@ fn note_left(
 
 /// Whether in each group that is there the operations come to the number of the listed objects that
 /// were born at or below it. It sorts the operations and what they are compared with once, and for
-/// an object climbs from its group to the root. Our own.
+/// an object climbs from its group to the root.
 pub fn are_final(
     alloc: Global,
     case: &Case,
@@ -94,7 +95,7 @@ fn is_within(limit: Option<u32>, usage: Usage) -> bool
     }
 }
 
-/// Whether in no group the operations come to more than its limit. Our own.
+/// Whether in no group the operations come to more than its limit.
 pub fn are_within(limits: &[Option<u32>], usages: &[Usage]) -> bool
     ensures { Decides result (AreWithin limits.now usages.now) }
 {

@@ -1,4 +1,5 @@
-//! Whether the charges of a report are lawful. Our own.
+// SPDX-License-Identifier: GPL-2.0-only
+//! Whether the charges of a report are lawful.
 #![tactic(auto)]
 
 pub mod balance;

@@ -1,3 +1,4 @@
+// SPDX-License-Identifier: GPL-2.0-only
 //! What each command charged and freed: whether its operations in each group come to that.
 
 ghost use Rattle.std.specs.Prelude.{◌≡◌, ◌<◌, ◌≤◌, ◌^◌, ◌++◌, flat_map, length, OnOk, IfOk};
@@ -234,7 +235,7 @@ fn note_workers(
 
 /// Whether in each group that is there the operations of each command come to what it charged less
 /// what it freed. It sorts the operations and what they are compared with once, and for an object
-/// climbs from its group to the root. Our own.
+/// climbs from its group to the root.
 pub fn are_nets(
     alloc: Global,
     case: &Case,

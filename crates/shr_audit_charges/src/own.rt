@@ -1,3 +1,4 @@
+// SPDX-License-Identifier: GPL-2.0-only
 //! What each command did in each group: whether it took back what it had to, and put on no more
 //! than it may.
 
@@ -16,14 +17,14 @@ use std::alloc::Global;
 use std::collections::BTreeMap;
 
 /// The operations of a command in a group, from one of them on: whether the first goes up, and how
-/// many do. Our own.
+/// many do.
 #[derive(Clone, Copy, Debug, PartialEq, Eq)]
 pub struct Own {
     pub up: bool,
     pub ups: u8,
 }
 
-/// The limit of a group, if it has one. Our own.
+/// The limit of a group, if it has one.
 pub fn limit_at(limits: &[Option<u32>], group: usize) -> Option<u32>
     ensures { result ≡ limit_in limits.now group }
 {
@@ -80,7 +81,7 @@ fn next_in(later: &BTreeMap<u64, Own>, key: u64) -> Option<Own>
 /// Whether each command did in each group as it may: an operation that goes up and doesn't find the
 /// usage below the group's limit has a next one there that goes down, no two in a row go up, and no
 /// more than 14 do. It goes through the operations from the last to the first, and keeps what
-/// stands behind for each command and group. Our own.
+/// stands behind for each command and group.
 pub fn are_own_right(
     alloc: Global,
     limits: &[Option<u32>],

@@ -1,3 +1,4 @@
+// SPDX-License-Identifier: GPL-2.0-only
 //! Operations that go up: whether each is of a put.
 
 ghost use Rattle.std.specs.Bool.{Decides};
@@ -23,7 +24,7 @@ fn is_up_of_put(script: &Script, step: UseStep) -> bool
     }
 }
 
-/// Whether each operation that goes up is of a put. Our own.
+/// Whether each operation that goes up is of a put.
 pub fn are_ups_of_puts(script: &Script, uses: &[UseStep]) -> bool
     ensures { Decides result (AreUpsOfPuts script.now uses.now) }
 {

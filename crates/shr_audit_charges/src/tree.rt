@@ -1,3 +1,4 @@
+// SPDX-License-Identifier: GPL-2.0-only
 //! The journal of the tree: whether each entry may stand where it does.
 
 ghost use Rattle.std.specs.Prelude.{◌≡◌, ℕ, ◌<◌, true, false, length, slice_index_or, vec_len, IfOk};
@@ -14,7 +15,7 @@ use shr_base::memory::Memory;
 use std::alloc::Global;
 
 /// What the journal of the tree says of a group: whether it is there, and whether it began to go
-/// offline and was done. Our own.
+/// offline and was done.
 #[derive(Clone, Copy, Debug, PartialEq, Eq)]
 pub struct GroupState {
     pub made: bool,
@@ -166,7 +167,7 @@ fn first_states(alloc: Global, later: &[bool]) -> Result<Vec<GroupState>, Memory
 
 /// Whether these entries are a journal of the tree with these parents and these groups that aren't
 /// there at the start. For each entry with which a group begins to go offline, of which there is
-/// one for each group, it goes through all groups. Our own.
+/// one for each group, it goes through all groups.
 pub fn is_tree_journal(
     alloc: Global,
     parents: &[u16],

@@ -1,3 +1,4 @@
+// SPDX-License-Identifier: GPL-2.0-only
 //! The keys of operations: of their groups alone, or with their commands.
 
 ghost use Rattle.std.specs.Prelude.{◌≡◌, ◌++◌, flat_map, OnOk};
@@ -38,8 +39,7 @@ fn note_down(keys: &mut Vec<u64>, step: UseStep, own: bool) -> Result<(), Memory
     Ok(())
 }
 
-/// Adds a key for each operation that goes up: of its group, and if `own` of its command too. Our
-/// own.
+/// Adds a key for each operation that goes up: of its group, and if `own` of its command too.
 pub fn note_ups(keys: &mut Vec<u64>, uses: &[UseStep], own: bool) -> Result<(), Memory>
     ensures { OnOk result (keys.new.items ≡ keys.old.items ++ flat_map (up_keys own) uses.now) }
 {
@@ -49,7 +49,7 @@ pub fn note_ups(keys: &mut Vec<u64>, uses: &[UseStep], own: bool) -> Result<(), 
     Ok(())
 }
 
-/// The same of each operation that goes down. Our own.
+/// The same of each operation that goes down.
 pub fn note_downs(keys: &mut Vec<u64>, uses: &[UseStep], own: bool) -> Result<(), Memory>
     ensures { OnOk result (keys.new.items ≡ keys.old.items ++ flat_map (down_keys own) uses.now) }
 {

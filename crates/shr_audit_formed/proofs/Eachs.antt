@@ -1,3 +1,4 @@
+-- SPDX-License-Identifier: GPL-2.0-only
 -- What is so of each item, and of each two that stand next to one another, by index and by recursion.
 use Rattle.shr_audit_formed.proofs.Common.{◌≡◌, ℕ, zero, suc, ◌+◌, ◌<◌, ◌≤◌, Bool, true, false, List, [], ◌∷◌, length, map, Option, Some, None, refl, sym, ap, subst, ◌∙◌, arith, ◌==◌, slice_get, Contains, Decides, AllByRecursion, MapSeen, EachItem, Adjacent, IsUnitLoaded, get_or, option_map, AllAdjacentBelow}
 use Rattle.std.proofs.lemmas.List.{get_or_default}

@@ -1,3 +1,4 @@
+-- SPDX-License-Identifier: GPL-2.0-only
 -- What the parts of well formed ask, at known values.
 use Rattle.shr_audit_formed.proofs.Common.{◌≡◌, ℕ, ◌<◌, List, [], ◌∷◌, refl, arith, range_with_len, MapSeen, bit_places, EachItem, Adjacent, IsWorkerCommand, IsUnitLoaded, IsNotStripped, at_unit, group_places}
 use Rattle.shr_base.specs.declared.places.Serial.{Serial}

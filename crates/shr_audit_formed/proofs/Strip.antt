@@ -1,3 +1,4 @@
+-- SPDX-License-Identifier: GPL-2.0-only
 -- One more of some places in a row.
 use Rattle.shr_audit_formed.proofs.Common.{◌≡◌, ℕ, zero, suc, ◌+◌, ◌<◌, Bool, true, false, List, [], ◌∷◌, ◌++◌, length, flat_map, map, refl, sym, ap, ◌∙◌, arith, Decides, range_with_len, ◌==◌, MapEnd, Where, wheres, IsNotStripped, append_assoc}
 use Rattle.std.proofs.lemmas.List.{append-nil, append_cancel_left}

@@ -1,3 +1,4 @@
+-- SPDX-License-Identifier: GPL-2.0-only
 -- A report is well formed where its parts are, and the other way round.
 use Rattle.shr_audit_formed.proofs.Common.{◌≡◌, ℕ, suc, ◌+◌, ◌-◌, ◌<◌, ◌≤◌, ◌^◌, Bool, true, false, List, [], ◌∷◌, ◌++◌, length, map, Option, Some, None, refl, sym, ap, ◌∙◌, arith, ◌==◌, slice_get, Contains, range_with_len, is_path, is_name, unit_of, Answered, MapSeen, Attempt, WalkRecord, Carry, PlainWalk, Isolation, MapEnd, UnitsEnd, PlaceAmount, PlaceEnd, WorkerPart, HasWords, LendsWord, IsBitWord, IsCarryBefore, IsPoolNumbered, IsTreeNumbered, IsAmountWell, IsPoolAmountWell, IsUseBefore, units_place, IsPlaceBefore, IsPlaceUpTo, bit_places, IsWellFormed, IsWorkerCommand, IsWalkFormed, IsListFormed, IsPartFormed, ArePartsFormed, IsLastFormed, AreHeadsFormed, AreListsFormed, AreMapsPrinted, ◌/◌, if◌then◌else◌, IsPlaceWell, IsWalkWell, IsPartWell, AreTablesFormed}
 use Rattle.std.proofs.lemmas.List.{length-append}

@@ -1,3 +1,4 @@
+-- SPDX-License-Identifier: GPL-2.0-only
 -- The places of words of bits, one behind another.
 use Rattle.std.specs.Prelude.{◌≡◌, ℕ, ◌-◌, List, ◌++◌, flat_map, map}
 use Rattle.std.specs.List.{range_with_len}

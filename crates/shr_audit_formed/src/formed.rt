@@ -1,3 +1,4 @@
+// SPDX-License-Identifier: GPL-2.0-only
 //! Whether a whole report is well formed.
 
 ghost use Rattle.std.specs.Prelude.{◌<◌, ◌^◌};
@@ -204,7 +205,7 @@ fn numbers_fit(nodes: u8, ids: u16, added: u64, freed: u64, listed: u64)
 {}
 
 /// Whether a report is well formed, so that its text determines it. It goes through all of the report
-/// once. Our own.
+/// once.
 pub fn is_well_formed(report: &Report) -> bool
     ensures { Decides result (IsWellFormed report.now) }
 {

@@ -1,4 +1,5 @@
-//! Whether a report is well formed. Our own.
+// SPDX-License-Identifier: GPL-2.0-only
+//! Whether a report is well formed.
 #![tactic(auto)]
 
 pub mod formed;

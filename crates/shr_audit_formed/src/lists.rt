@@ -1,3 +1,4 @@
+// SPDX-License-Identifier: GPL-2.0-only
 //! The lists of a report.
 
 ghost use Rattle.std.specs.Bool.{Decides};
@@ -81,7 +82,7 @@ fn is_list_well(end: &PlaceEnd) -> bool
     items
 }
 
-/// Whether each list is as one that is printed. Our own.
+/// Whether each list is as one that is printed.
 pub fn lists_are_well(ends: &[PlaceEnd]) -> bool
     ensures { Decides result (EachItem (IsListFormed) ends.now) }
 {
@@ -93,7 +94,7 @@ pub fn lists_are_well(ends: &[PlaceEnd]) -> bool
     true
 }
 
-/// Whether lists stand by place. Our own.
+/// Whether lists stand by place.
 pub fn lists_stand(ends: &[PlaceEnd]) -> bool
     ensures { Decides result (Adjacent (λ x y. IsPlaceUpTo x.place y.place) ends.now) }
 {

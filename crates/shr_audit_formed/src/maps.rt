@@ -1,3 +1,4 @@
+// SPDX-License-Identifier: GPL-2.0-only
 //! Whether each word of bits of a report stands where it must.
 
 ghost use Rattle.std.specs.Prelude.{◌≡◌, [], ◌∷◌, ◌++◌, IfSome, IfNone};
@@ -75,7 +76,7 @@ fn strip_nodes(maps: &[MapEnd], nodes: u8, groups: usize, units: usize) -> Optio
 }
 
 /// Whether the words of bits are those of each node, each group from 1 on, and so many units, in this
-/// order. Our own.
+/// order.
 pub fn maps_stand(maps: &[MapEnd], nodes: u8, groups: usize, units: usize) -> bool
     ensures { Decides result (wheres maps.now ≡ bit_places nodes groups (range_with_len 0 units)) }
 {

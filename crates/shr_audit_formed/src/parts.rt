@@ -1,3 +1,4 @@
+// SPDX-License-Identifier: GPL-2.0-only
 //! What the workers did.
 
 ghost use Rattle.std.specs.Prelude.{◌≡◌, ◌≢◌, ◌<◌, ◌≤◌};
@@ -22,7 +23,7 @@ fn lends_word(reply: &Reply) -> bool
     }
 }
 
-/// Whether the values that these answers lend are words. Our own.
+/// Whether the values that these answers lend are words.
 pub fn lend_words(answers: &[Answered]) -> bool
     ensures { Decides result (EachItem (λ a. LendsWord a.reply) answers.now) }
 {
@@ -41,7 +42,7 @@ fn is_of(by: Serial, worker: usize, answers: usize) -> bool
     by.worker as usize == worker && (by.command as usize) < answers
 }
 
-/// Whether these walks are of commands of this worker that have answers. Our own.
+/// Whether these walks are of commands of this worker that have answers.
 pub fn walks_are_of(walks: &[WalkRecord], worker: usize, answers: usize) -> bool
     ensures { Decides result (EachItem (λ x. IsWorkerCommand worker answers x.by) walks.now) }
 {
@@ -53,7 +54,7 @@ pub fn walks_are_of(walks: &[WalkRecord], worker: usize, answers: usize) -> bool
     true
 }
 
-/// Whether these walks stand in the order of their commands. Our own.
+/// Whether these walks stand in the order of their commands.
 pub fn walks_stand(walks: &[WalkRecord]) -> bool
     ensures { Decides result (Adjacent (λ x y. x.by.command ≤ y.by.command) walks.now) }
 {
@@ -67,7 +68,7 @@ pub fn walks_stand(walks: &[WalkRecord]) -> bool
     true
 }
 
-/// Whether these carries are of commands of this worker that have answers. Our own.
+/// Whether these carries are of commands of this worker that have answers.
 pub fn carries_are_of(carries: &[Carry], worker: usize, answers: usize) -> bool
     ensures { Decides result (EachItem (λ x. IsWorkerCommand worker answers x.by) carries.now) }
 {
@@ -79,7 +80,7 @@ pub fn carries_are_of(carries: &[Carry], worker: usize, answers: usize) -> bool
     true
 }
 
-/// Whether these carries stand in the order of their commands. Our own.
+/// Whether these carries stand in the order of their commands.
 pub fn carries_stand(carries: &[Carry]) -> bool
     ensures { Decides result (Adjacent (λ x y. x.by.command ≤ y.by.command) carries.now) }
 {
@@ -91,7 +92,7 @@ pub fn carries_stand(carries: &[Carry]) -> bool
     true
 }
 
-/// Whether these walks of the pools are of commands of this worker that have answers. Our own.
+/// Whether these walks of the pools are of commands of this worker that have answers.
 pub fn plains_are_of(plains: &[PlainWalk], worker: usize, answers: usize) -> bool
     ensures { Decides result (EachItem (λ x. IsWorkerCommand worker answers x.by) plains.now) }
 {
@@ -103,7 +104,7 @@ pub fn plains_are_of(plains: &[PlainWalk], worker: usize, answers: usize) -> boo
     true
 }
 
-/// Whether these walks of the pools stand in the order of their commands. Our own.
+/// Whether these walks of the pools stand in the order of their commands.
 pub fn plains_stand(plains: &[PlainWalk]) -> bool
     ensures { Decides result (Adjacent (λ x y. x.by.command ≤ y.by.command) plains.now) }
 {
@@ -115,7 +116,7 @@ pub fn plains_stand(plains: &[PlainWalk]) -> bool
     true
 }
 
-/// Whether these isolations are of commands of this worker that have answers. Our own.
+/// Whether these isolations are of commands of this worker that have answers.
 pub fn isolations_are_of(isolations: &[Isolation], worker: usize, answers: usize) -> bool
     ensures { Decides result (EachItem (λ x. IsWorkerCommand worker answers x.by) isolations.now) }
 {
@@ -127,7 +128,7 @@ pub fn isolations_are_of(isolations: &[Isolation], worker: usize, answers: usize
     true
 }
 
-/// Whether these isolations stand in the order of their commands. Our own.
+/// Whether these isolations stand in the order of their commands.
 pub fn isolations_stand(isolations: &[Isolation]) -> bool
     ensures { Decides result (Adjacent (λ x y. x.by.command ≤ y.by.command) isolations.now) }
 {
@@ -147,7 +148,7 @@ fn is_carry_before(c: &Carry, d: &Carry) -> bool
     c.by.command != d.by.command || from.id < to.id || (from.id == to.id && from.node < to.node)
 }
 
-/// Whether the carries of each command stand by id and node. Our own.
+/// Whether the carries of each command stand by id and node.
 pub fn carries_stand_by_place(carries: &[Carry]) -> bool
     ensures { Decides result (Adjacent (IsCarryBefore) carries.now) }
 {
@@ -273,7 +274,7 @@ fn is_walk_well(walk: &WalkRecord) -> bool
     well
 }
 
-/// Whether each walk is as one that is printed. Our own.
+/// Whether each walk is as one that is printed.
 pub fn walks_are_well(walks: &[WalkRecord]) -> bool
     ensures { Decides result (EachItem (IsWalkFormed) walks.now) }
 {

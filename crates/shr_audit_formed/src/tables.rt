@@ -1,3 +1,4 @@
+// SPDX-License-Identifier: GPL-2.0-only
 //! The tables of a report.
 
 ghost use Rattle.std.specs.Prelude.{◌≡◌, ◌<◌, ◌^◌, true, length};
@@ -21,14 +22,14 @@ fn is_place_before(p: Place, q: Place) -> bool
     p.id < q.id || (p.id == q.id && (p.node < q.node || (p.node == q.node && p.group < q.group)))
 }
 
-/// Whether a place stands before another, or is the same. Our own.
+/// Whether a place stands before another, or is the same.
 pub fn is_place_up_to(p: Place, q: Place) -> bool
     ensures { Decides result (IsPlaceUpTo p q) }
 {
     is_place_before(p, q) || p == q
 }
 
-/// Whether each of these is a path. Our own.
+/// Whether each of these is a path.
 pub fn are_paths(paths: &[Text]) -> bool
     ensures { Decides result (EachItem (λ p. is_path p ≡ true) paths.now) }
 {
@@ -40,7 +41,7 @@ pub fn are_paths(paths: &[Text]) -> bool
     true
 }
 
-/// Whether each of these is a name. Our own.
+/// Whether each of these is a name.
 pub fn are_names(names: &[Text]) -> bool
     ensures { Decides result (EachItem (λ w. is_name w ≡ true) names.now) }
 {
@@ -83,7 +84,7 @@ fn bits_fit_one(map: MapEnd)
     ensures { IsBitWord map.bits }
 {}
 
-/// Each number of these registrations has the range of its type, as it was read. Our own.
+/// Each number of these registrations has the range of its type, as it was read.
 pub fn pool_fits(entries: &[PoolEntry])
     ensures { EachItem (IsPoolNumbered) entries.now }
 {
@@ -92,7 +93,7 @@ pub fn pool_fits(entries: &[PoolEntry])
     }
 }
 
-/// The same of the journal of the tree. Our own.
+/// The same of the journal of the tree.
 pub fn tree_fits(entries: &[TreeEntry])
     ensures { EachItem (IsTreeNumbered) entries.now }
 {
@@ -101,7 +102,7 @@ pub fn tree_fits(entries: &[TreeEntry])
     }
 }
 
-/// The same of the numbers of lookups. Our own.
+/// The same of the numbers of lookups.
 pub fn lookups_fit(lookups: &[u32])
     ensures { EachItem (λ n. n < 2 ^ 32) lookups.now }
 {
@@ -110,7 +111,7 @@ pub fn lookups_fit(lookups: &[u32])
     }
 }
 
-/// The same of words of bits. Our own.
+/// The same of words of bits.
 pub fn bits_fit(maps: &[MapEnd])
     ensures { EachItem (λ m. IsBitWord m.bits) maps.now }
 {
@@ -133,7 +134,7 @@ fn is_pool_amount_well(d: PlaceAmount) -> bool
     is_amount_well(d) && d.place.group == 0
 }
 
-/// Whether each deferred word is as one that is printed. Our own.
+/// Whether each deferred word is as one that is printed.
 pub fn amounts_are_well(amounts: &[PlaceAmount]) -> bool
     ensures { Decides result (EachItem (IsAmountWell) amounts.now) }
 {
@@ -145,7 +146,7 @@ pub fn amounts_are_well(amounts: &[PlaceAmount]) -> bool
     true
 }
 
-/// The same of the deferred words of pools. Our own.
+/// The same of the deferred words of pools.
 pub fn pool_amounts_are_well(amounts: &[PlaceAmount]) -> bool
     ensures { Decides result (EachItem (IsPoolAmountWell) amounts.now) }
 {
@@ -157,7 +158,7 @@ pub fn pool_amounts_are_well(amounts: &[PlaceAmount]) -> bool
     true
 }
 
-/// Whether amounts stand by place, each once. Our own.
+/// Whether amounts stand by place, each once.
 pub fn amounts_rise(amounts: &[PlaceAmount]) -> bool
     ensures { Decides result (Adjacent (λ d e. IsPlaceBefore d.place e.place) amounts.now) }
 {
@@ -176,7 +177,7 @@ fn is_use_before(u: &UseStep, v: &UseStep) -> bool
     u.group < v.group || (u.group == v.group && u.operation < v.operation)
 }
 
-/// Whether charges stand by group and operation. Our own.
+/// Whether charges stand by group and operation.
 pub fn uses_stand(uses: &[UseStep]) -> bool
     ensures { Decides result (Adjacent (IsUseBefore) uses.now) }
 {
@@ -188,7 +189,7 @@ pub fn uses_stand(uses: &[UseStep]) -> bool
     true
 }
 
-/// Whether each pool on a node has an entry. Our own.
+/// Whether each pool on a node has an entry.
 pub fn units_are_entered(pools: &[UnitsEnd]) -> bool
     ensures { Decides result (EachItem (λ u. 0 < length u.entries.items) pools.now) }
 {
@@ -211,7 +212,7 @@ fn place_of_units(units: &UnitsEnd) -> Place
     }
 }
 
-/// Whether pools stand by pool and node. Our own.
+/// Whether pools stand by pool and node.
 pub fn units_stand(pools: &[UnitsEnd]) -> bool
     ensures { Decides result (Adjacent (λ u v. IsPlaceUpTo (units_place u)
         (units_place v)) pools.now) }

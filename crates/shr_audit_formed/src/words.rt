@@ -1,3 +1,4 @@
+// SPDX-License-Identifier: GPL-2.0-only
 //! Classes of words.
 
 ghost use Rattle.std.specs.Prelude.{◌≡◌};
@@ -18,21 +19,21 @@ fn all_visible(word: &[u8]) -> bool
     word.iter().all(|b| is_visible(*b))
 }
 
-/// Whether a word is a key. Our own.
+/// Whether a word is a key.
 pub fn is_key(word: &[u8]) -> bool
     ensures { result ≡ is_key word.now }
 {
     !word.is_empty() && word.len() <= 64 && all_visible(word)
 }
 
-/// Whether a word is a value. Our own.
+/// Whether a word is a value.
 pub fn is_value(word: &[u8]) -> bool
     ensures { result ≡ is_value word.now }
 {
     word.len() <= 255 && all_visible(word)
 }
 
-/// Whether a word is a name. Our own.
+/// Whether a word is a name.
 pub fn is_name(word: &[u8]) -> bool
     ensures { result ≡ is_name word.now }
 {

@@ -1,3 +1,4 @@
+-- SPDX-License-Identifier: GPL-2.0-only
 -- What the answer to a command gives.
 use Rattle.shr_audit_fresh.proofs.Common.{◌≡◌, ℕ, ◌≤◌, List, [], length, Option, Some, None, sym, ap, ◌∙◌, flat_map, option_to_list, append-nil, slice_get_past, Serial, Answered, Report, of_answer, answer_at, answers_of, reply_at, serial_of, option_map}
 

@@ -1,3 +1,4 @@
+-- SPDX-License-Identifier: GPL-2.0-only
 -- The least command of each group, one command after another.
 use Rattle.shr_audit_fresh.proofs.Common.{◌≡◌, ◌⊎◌, ℕ, ◌<◌, ◌≤◌, Bool, true, false, cond, List, [], ◌∷◌, Option, Some, None, refl, sym, ap, subst, ◌∙◌, inl, inr, arith, ◌||◌, nat_eq, slice_get, option_to_list, get, list_any, nat_tests, TreeEntry, is_begin, is_done, Report, is_begin_at, is_done_at, AreLeastOfGroups, FirstCommands, HasNoFirsts, IsLeast, NotesFirst, first_with, is_group, shows_in, either, or_left, or_right, nat_lt}
 use Rattle.std.proofs.Math.Bool.{or-false}

@@ -1,3 +1,4 @@
+-- SPDX-License-Identifier: GPL-2.0-only
 -- Floors: the least number above all that was known.
 use Rattle.shr_audit_fresh.proofs.Common.{◌≡◌, ℕ, ◌+◌, ◌<◌, ◌≤◌, Bool, true, false, List, [], ◌∷◌, ◌++◌, refl, sym, subst, inl, inr, arith, ◌↔◌, Decides, cases_lt, AreBelow, AreKnownBelow, FloorWith, IsFloor, IsFloorBefore, IsHigher, Reaches, AllByRecursion, all_both}
 

@@ -1,3 +1,4 @@
+-- SPDX-License-Identifier: GPL-2.0-only
 -- What is tested of freshness, at known values.
 use Rattle.shr_audit_fresh.proofs.Common.{◌≡◌, ◌<◌, ◌≤◌, true, false, [], ◌∷◌, Some, None, refl, arith, Never, Once, Often, first_with, is_group, IsFloor, Reaches, After, NeverFallsFrom, may_show, is_first_before}
 

@@ -1,3 +1,4 @@
+-- SPDX-License-Identifier: GPL-2.0-only
 -- Groups that a worker's answers showed to be made, one answer after another.
 use Rattle.shr_audit_fresh.proofs.Common.{◌≡◌, ℕ, ◌+◌, ◌<◌, ◌≤◌, Bool, true, false, cond, length, Option, Some, None, refl, sym, ap, subst, ◌∙◌, inl, inr, arith, ◌↔◌, nat_eq, option_and_then, Decides, get, cases_lt, eq-eqb, nat_tests, Serial, Answered, Reply, Script, Report, answer_at, answers_of, command_at, reply_at, serial_of, AreLeastOfGroups, FirstCommands, HasNoFirsts, IsLeast, NotesFirst, is_group, StaysMadeAt, asks_made, is_past_group, made_shown, shows_made, makes, unmade, some_injective}
 use Rattle.shr_base.specs.declared.replies.Reply.TheVariants as reply

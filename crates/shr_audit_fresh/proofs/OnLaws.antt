@@ -1,3 +1,4 @@
+-- SPDX-License-Identifier: GPL-2.0-only
 -- Answers against the number of the caches that are `on`, and past the last one.
 use Rattle.shr_audit_fresh.proofs.Common.{◌≡◌, ℕ, ◌<◌, ◌≤◌, Bool, true, length, Option, Some, None, refl, sym, subst, ◌∙◌, inl, inr, arith, Decides, slice_get_within, Answered, Script, Report, pool_seen, answer_at, answers_of, commands_of, serial_of, Reaches, IsOnSeenAt, slice_get_cases, decls_on, some_injective}
 use Rattle.shr_audit_fresh.proofs.Answering.{answer_past}

@@ -1,3 +1,4 @@
+-- SPDX-License-Identifier: GPL-2.0-only
 -- What a worker was shown to be offline, one answer and one walk after another.
 use Rattle.shr_audit_fresh.proofs.Common.{◌≡◌, ◌⊎◌, ℕ, ◌+◌, ◌<◌, ◌≤◌, Bool, true, false, cond, List, [], ◌∷◌, ◌++◌, length, Option, Some, None, refl, sym, ap, subst, ◌∙◌, inl, inr, arith, ◌||◌, ◌&&◌, ◌==◌, nat_eq, option_and_then, option_to_list, Decides, get, IsSomeAnd, cases_lt, nat_tests, append-nil, list_any-append, slice_get_past, Answered, Script, WalkRecord, asks_online, is_serial, Report, MayBeOffline, is_begin_at, is_done_at, of_answer, shown_by, tree_cited, walk_cited, answers_of, command_at, commands_of, reply_at, serial_of, walks_of, AreLeastOfGroups, FirstCommands, HasNoFirsts, IsLeast, NotesFirst, is_group, shows_in, walks_cite, IsRefusedAt, ShownByWalks, is_first_before, either, or_left, or_right, ShownOffline, some_same}
 use Rattle.shr_audit_fresh.proofs.Answering.{of_past}

@@ -1,3 +1,4 @@
+-- SPDX-License-Identifier: GPL-2.0-only
 -- Numbers that never fall, one list after another.
 use Rattle.shr_audit_fresh.proofs.Common.{◌≡◌, ℕ, zero, suc, ◌+◌, ◌<◌, ◌≤◌, true, false, List, [], ◌∷◌, ◌++◌, length, get_or, take, Option, Some, None, refl, sym, ap, subst, ◌∙◌, arith, flat_map, Decides, append-nil, take_more, take_all, flat_map-append, AreNotFalling, After, NeverFallsFrom, drop, append_assoc, take-append-drop}
 use Rattle.shr_model.proofs.Numbers.{after_suc}

@@ -1,3 +1,4 @@
+-- SPDX-License-Identifier: GPL-2.0-only
 -- Begins that are shown, against those who may have begun.
 use Rattle.shr_audit_fresh.proofs.Common.{◌≡◌, ℕ, zero, suc, ◌<◌, ◌≤◌, Bool, true, false, cond, List, [], ◌∷◌, ◌++◌, length, Option, Some, None, refl, sym, ap, subst, ◌∙◌, inl, inr, arith, ◌||◌, ◌&&◌, ◌==◌, slice_get, flat_map, filter, option_to_list, Decides, list_any, nat_tests, list_any-append, slice_get_within, Serial, TreeEntry, Answered, Script, WalkRecord, is_serial, is_begin, Cited, Never, Once, Often, AreCited, EachItem, Report, is_begin_at, of_answer, shown_by, tree_cited, walk_cited, answers_of, serial_of, walks_of, IsTreeNumbered, is_group, walks_cite, IsEntryStarted, IsWalkStarted, may_show, IsBeginStarted, either, or_left, or_right, not, nat_le, AnswerCites, TellsCited, cited_in, shows_begin, AreAnswersStarted, MayShow}
 use Rattle.shr_base.specs.declared.journals.TreeEntry.TheVariants.{Begin, Done, Made}

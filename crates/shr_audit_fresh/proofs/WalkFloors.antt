@@ -1,3 +1,4 @@
+-- SPDX-License-Identifier: GPL-2.0-only
 -- The floors of commands by what their walks cite, one walk after another.
 use Rattle.shr_audit_fresh.proofs.Common.{◌≡◌, ℕ, ◌<◌, ◌≤◌, Bool, true, false, cond, List, [], ◌∷◌, ◌++◌, length, get_or, refl, sym, ap, subst, ◌∙◌, arith, ◌==◌, ◌&&◌, flat_map, filter, eq-eqb, append-nil, flat_map-append, WalkRecord, is_serial, walk_cited, serial_of, AreFloors, FloorWith, IsFloor, walks_cite, zero_more, set, ne_eqb, get_or-set_same, get_or-set_other, length-set}
 use mathlib.Core.Logic.{dite}

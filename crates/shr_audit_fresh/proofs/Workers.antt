@@ -1,3 +1,4 @@
+-- SPDX-License-Identifier: GPL-2.0-only
 -- Freshness of all workers, by that of each that has a part.
 use Rattle.shr_audit_fresh.proofs.Common.{◌≡◌, ℕ, ◌≤◌, Bool, true, false, List, [], ◌++◌, length, sym, ap, subst, ◌∙◌, arith, ◌||◌, flat_map, filter, Decides, list_any, slice_get_past, Answered, Script, WalkRecord, is_serial, Report, AreBelow, is_begin_at, is_done_at, of_answer, pool_made, pool_seen, shown_by, tree_cited, tree_seen, walk_cited, answers_of, serial_of, walks_of, AreNotFalling, IsWorkerFresh, IsFresh, shows_offline, answers_in, walks_in}
 use Rattle.shr_audit_case.proofs.Eachs.{decides_iff}

@@ -1,3 +1,4 @@
+-- SPDX-License-Identifier: GPL-2.0-only
 -- The groups of which something was shown, each with the least command that showed it. No public clause cites this.
 use Rattle.std.specs.Prelude.{◌≡◌, ℕ, ◌≤◌, Bool, false, ◌||◌, ◌==◌, nat_eq, nat_lt, cond, List, Option, Some, None}
 use Rattle.std.specs.declared.hash.FoldHasher.{FoldHasher}

@@ -1,3 +1,4 @@
+-- SPDX-License-Identifier: GPL-2.0-only
 -- What was known, by the least number that is above all of it.
 use Rattle.std.specs.Prelude.{ℕ, ◌<◌, ◌≤◌, ◌↔◌, List, length, filter, flat_map, get_or}
 use Rattle.std.specs.List.{AllByRecursion}

@@ -1,3 +1,4 @@
+-- SPDX-License-Identifier: GPL-2.0-only
 -- Begins that are shown, against the table of who may have begun. No public clause cites this.
 use Rattle.std.specs.Prelude.{◌≡◌, ℕ, Bool, true, false, not, ◌||◌, ◌==◌, nat_le, List}
 use Rattle.std.specs.List.{list_any}

@@ -1,3 +1,4 @@
+-- SPDX-License-Identifier: GPL-2.0-only
 -- Freshness, worker by worker.
 use Rattle.std.specs.Prelude.{◌≡◌, ℕ, ◌<◌, ◌≤◌, Bool, true, false, ◌++◌, nat_lt, List, length, flat_map, Option, Some, None, option_and_then}
 use Rattle.std.specs.List.{AllByRecursion}

@@ -1,3 +1,4 @@
+// SPDX-License-Identifier: GPL-2.0-only
 //! The groups of which something was shown, each with the least command that showed it.
 
 ghost use Rattle.std.specs.Prelude.{◌≡◌, ℕ, nat_eq, OnOk};
@@ -8,7 +9,7 @@ use shr_base::memory::Memory;
 use std::alloc::Global;
 use std::collections::HashMap;
 
-/// A table of no groups. Our own.
+/// A table of no groups.
 pub(crate) fn no_firsts(alloc: Global) -> HashMap<u16, usize>
     ensures { HasNoFirsts result }
 {
@@ -25,14 +26,14 @@ fn first_with(first: Option<usize>, command: usize) -> usize
     }
 }
 
-/// The least command that showed something of a group. Our own.
+/// The least command that showed something of a group.
 pub(crate) fn first_of(firsts: &HashMap<u16, usize>, group: u16) -> Option<usize>
     ensures { result ≡ get nat_eq firsts.now group }
 {
     firsts.get(&group).copied()
 }
 
-/// Notes a command, if it shows something of a group. Our own.
+/// Notes a command, if it shows something of a group.
 pub(crate) fn note(
     firsts: &mut HashMap<u16, usize>,
     group: Option<u16>,

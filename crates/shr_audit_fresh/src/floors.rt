@@ -1,3 +1,4 @@
+// SPDX-License-Identifier: GPL-2.0-only
 //! What was known, by the least number that is above all of it.
 
 ghost use Rattle.std.specs.Prelude.{◌≡◌, ℕ, ◌∷◌, [], ◌++◌, List, length, get_or, option_to_list, IfOk};
@@ -12,7 +13,7 @@ use shr_base::walks::WalkRecord;
 use shr_laws::report::Report;
 use std::alloc::Global;
 
-/// Whether a number is at least the floor, if there is one. Our own.
+/// Whether a number is at least the floor, if there is one.
 pub(crate) fn reaches(floor: u64, seen: Option<u32>) -> bool
     ensures { Decides result (Reaches floor (option_to_list seen)) }
 {
@@ -22,7 +23,7 @@ pub(crate) fn reaches(floor: u64, seen: Option<u32>) -> bool
     }
 }
 
-/// The floor with one number more, if there is one. Our own.
+/// The floor with one number more, if there is one.
 pub(crate) fn floor_with(floor: u64, told: Option<u32>) -> u64
     ensures { FloorWith floor (option_to_list told) result }
 {
@@ -38,7 +39,7 @@ pub(crate) fn floor_with(floor: u64, told: Option<u32>) -> u64
     }
 }
 
-/// The higher of two. Our own.
+/// The higher of two.
 pub(crate) fn higher(a: u64, b: u64) -> u64
     ensures { IsHigher a b result }
 {
@@ -74,7 +75,7 @@ fn note_walk(floors: &mut Vec<u64>, worker: usize, walk: &WalkRecord)
     }
 }
 
-/// The floors of so many commands of a worker by what their walks cite. Our own.
+/// The floors of so many commands of a worker by what their walks cite.
 pub(crate) fn walk_floors(
     alloc: Global,
     report: &Report,

@@ -1,3 +1,4 @@
+// SPDX-License-Identifier: GPL-2.0-only
 //! Freshness, field by field and worker by worker.
 
 ghost use Rattle.std.specs.Prelude.{◌≡◌, length, IfOk};
@@ -92,7 +93,7 @@ fn is_worker_fresh(
 
 /// Whether no answer and no walk of a report knew less than its worker had known before. It goes
 /// through each worker's answers a few times, with what it knows by group and by command. `Memory`
-/// is want of memory alone. Our own.
+/// is want of memory alone.
 pub fn is_fresh(alloc: Global, script: &Script, report: &Report) -> Result<bool, Memory>
     ensures { IfOk result (λ b. Decides b (IsFresh script.now report.now)) }
 {

@@ -1,4 +1,5 @@
-//! Whether what the answers of a worker knew isn't older than what it had known before. Our own.
+// SPDX-License-Identifier: GPL-2.0-only
+//! Whether what the answers of a worker knew isn't older than what it had known before.
 #![tactic(auto)]
 
 mod firsts;

@@ -1,3 +1,4 @@
+// SPDX-License-Identifier: GPL-2.0-only
 //! Once a worker was shown that a group is made, none of its later answers says that it isn't.
 
 ghost use Rattle.std.specs.Prelude.{◌≡◌, ℕ, ◌↔◌, cond, Some, None, nat_eq, option_copied, IfOk};
@@ -130,7 +131,6 @@ fn may_say(firsts: &HashMap<u16, usize>, unmade: Option<u16>) -> bool
 }
 
 /// Whether no later answer of a worker says that a group isn't made which an earlier one showed to be.
-/// Our own.
 pub(crate) fn stays_made(
     alloc: Global,
     script: &Script,

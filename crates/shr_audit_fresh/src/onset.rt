@@ -1,3 +1,4 @@
+// SPDX-License-Identifier: GPL-2.0-only
 //! What a worker's answers say of the journal of registrations isn't below the number of the caches
 //! that are `on`.
 
@@ -25,7 +26,7 @@ fn is_on_seen_at(script: &Script, report: &Report, worker: usize, number: usize,
     }
 }
 
-/// Whether it is so of each answer of a worker to a command of the script. Our own.
+/// Whether it is so of each answer of a worker to a command of the script.
 pub(crate) fn is_on_seen(script: &Script, report: &Report, worker: usize, on: usize) -> bool
     requires { on ≡ length (decls_on script.now) }
     ensures { Decides result (IsOnSeen script.now report.now worker) }

@@ -1,3 +1,4 @@
+// SPDX-License-Identifier: GPL-2.0-only
 //! What a worker's answers speak of is above what the worker made, or was shown, before.
 
 ghost use Rattle.std.specs.Prelude.{◌≡◌, ℕ, ◌<◌, length, IfOk};
@@ -16,7 +17,7 @@ use shr_base::replies::Answered;
 use shr_laws::report::Report;
 use std::alloc::Global;
 
-/// Whether what an answer says of the journal of registrations is at least the floor. Our own.
+/// Whether what an answer says of the journal of registrations is at least the floor.
 pub(crate) fn pool_reaches(floor: u64, answer: &Answered) -> bool
     ensures { Decides result (Reaches floor (pool_seen answer.now)) }
 {
@@ -39,7 +40,6 @@ fn pool_reaches_at(report: &Report, worker: usize, number: usize, floor: u64) ->
 }
 
 /// Whether what a worker's answers say of the journal of registrations is above what it made before.
-/// Our own.
 pub(crate) fn is_own_below(report: &Report, worker: usize) -> bool
     ensures { Decides result (IsOwnBelow report.now worker) }
 {
@@ -54,7 +54,6 @@ pub(crate) fn is_own_below(report: &Report, worker: usize) -> bool
 }
 
 /// Whether what they say of the journal of the tree is above what an answer or a walk cited before.
-/// Our own.
 pub(crate) fn is_shown_below(alloc: Global, report: &Report, worker: usize) -> Result<bool, Memory>
     ensures { IfOk result (λ b. Decides b (IsShownBelow report.now worker)) }
 {

@@ -1,3 +1,4 @@
+// SPDX-License-Identifier: GPL-2.0-only
 //! Once a worker was shown that a group is offline, its later commands there find it so.
 
 ghost use Rattle.std.specs.Prelude.{◌≡◌, ◌∷◌, [], ◌++◌, List, option_and_then, option_copied, IfOk, OnOk};
@@ -154,7 +155,7 @@ fn is_refused_at(
     may_be_offline_at(report, worker, number)
 }
 
-/// Whether each command of a worker does. Our own.
+/// Whether each command of a worker does.
 pub(crate) fn is_refused(
     alloc: Global,
     script: &Script,

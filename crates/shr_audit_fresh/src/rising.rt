@@ -1,3 +1,4 @@
+// SPDX-License-Identifier: GPL-2.0-only
 //! Along a worker's answers the numbers of entries that they speak of never fall.
 
 ghost use Rattle.std.specs.Prelude.{◌≡◌, ◌++◌, flat_map, option_map, option_to_list};
@@ -40,7 +41,7 @@ fn after_tree(low: u32, answer: &Answered) -> Option<u32>
     after(low, tree_told(&answer.reply))
 }
 
-/// Whether what these answers say of the journal of registrations never falls. Our own.
+/// Whether what these answers say of the journal of registrations never falls.
 pub(crate) fn is_pool_rising(answers: &[Answered]) -> bool
     ensures { Decides result (AreNotFalling (flat_map pool_seen answers.now)) }
 {
@@ -54,7 +55,7 @@ pub(crate) fn is_pool_rising(answers: &[Answered]) -> bool
     true
 }
 
-/// Whether what they say of the journal of the tree never falls. Our own.
+/// Whether what they say of the journal of the tree never falls.
 pub(crate) fn is_tree_rising(answers: &[Answered]) -> bool
     ensures { Decides result (AreNotFalling (flat_map tree_seen answers.now)) }
 {

@@ -1,3 +1,4 @@
+// SPDX-License-Identifier: GPL-2.0-only
 //! The groups of which entries of the journal of the tree are the Begin or the Done.
 
 ghost use Rattle.std.specs.Prelude.{◌≡◌, ℕ, ◌||◌, ◌∷◌, [], option_to_list};
@@ -53,7 +54,7 @@ fn offline_of(report: &Report, n: u32) -> Option<u16>
     }
 }
 
-/// The group of which the entry with this number is the Begin, if there is a number. Our own.
+/// The group of which the entry with this number is the Begin, if there is a number.
 pub(crate) fn begin_at(report: &Report, number: Option<u32>) -> Option<u16>
     ensures { (group : ℕ) → is_group group result
         ≡ list_any (is_begin_at report.now group) (option_to_list number) }
@@ -64,7 +65,7 @@ pub(crate) fn begin_at(report: &Report, number: Option<u32>) -> Option<u16>
     }
 }
 
-/// The group of which it is the Begin or the Done. Our own.
+/// The group of which it is the Begin or the Done.
 pub(crate) fn offline_at(report: &Report, number: Option<u32>) -> Option<u16>
     ensures { (group : ℕ) → is_group group result
         ≡ shows_in report.now group (option_to_list number) }

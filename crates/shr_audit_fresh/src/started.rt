@@ -1,3 +1,4 @@
+// SPDX-License-Identifier: GPL-2.0-only
 //! A worker is shown the Begin of a group only where an `offline` may have begun it.
 
 ghost use Rattle.std.specs.Prelude.{◌≡◌, ℕ, true, option_to_list};
@@ -93,7 +94,7 @@ fn are_walks_started(report: &Report, begun: &[Cited], worker: usize, walks: &[W
     true
 }
 
-/// Whether no Begin is shown to a worker before somebody may have begun. Our own.
+/// Whether no Begin is shown to a worker before somebody may have begun.
 pub(crate) fn is_begin_started(
     script: &Script,
     report: &Report,

@@ -1,3 +1,4 @@
+// SPDX-License-Identifier: GPL-2.0-only
 //! What an answer and a walk say of the journals of registrations and of the tree.
 
 ghost use Rattle.std.specs.Prelude.{◌≡◌, option_copied, option_map, option_to_list};
@@ -11,7 +12,7 @@ use shr_base::replies::{Answered, Reply};
 use shr_base::walks::{WalkAnswer, WalkRecord};
 use shr_laws::report::Report;
 
-/// How many entries of the journal of registrations its found cache tells of. Our own.
+/// How many entries of the journal of registrations its found cache tells of.
 pub(crate) fn pool_found(answer: &Answered) -> Option<u32>
     ensures { result ≡ option_map (λ (f : Found). f.entry) answer.now.found }
 {
@@ -21,7 +22,7 @@ pub(crate) fn pool_found(answer: &Answered) -> Option<u32>
     }
 }
 
-/// How many a reply tells of. Our own.
+/// How many a reply tells of.
 pub(crate) fn pool_told(reply: &Reply) -> Option<u32>
     ensures { option_to_list result ≡ pool_told reply.now }
 {
@@ -45,7 +46,7 @@ fn pool_made(reply: &Reply) -> Option<u32>
     }
 }
 
-/// How many entries of the journal of the tree a reply tells of. Our own.
+/// How many entries of the journal of the tree a reply tells of.
 pub(crate) fn tree_told(reply: &Reply) -> Option<u32>
     ensures { option_to_list result ≡ tree_told reply.now }
 {
@@ -69,7 +70,7 @@ fn tree_cited(reply: &Reply) -> Option<u32>
     }
 }
 
-/// The entry of that journal that a walk cites. Our own.
+/// The entry of that journal that a walk cites.
 pub(crate) fn walk_cited(answer: &WalkAnswer) -> Option<u32>
     ensures { option_to_list result ≡ walk_cited answer.now }
 {
@@ -79,7 +80,7 @@ pub(crate) fn walk_cited(answer: &WalkAnswer) -> Option<u32>
     }
 }
 
-/// The entry of the journal of registrations that the answer with this number made. Our own.
+/// The entry of the journal of registrations that the answer with this number made.
 pub(crate) fn made_by(report: &Report, worker: usize, number: usize) -> Option<u32>
     ensures { option_to_list result ≡ of_answer report.now (serial_of worker number)
         (λ (a : Answered). pool_made a.reply) }
@@ -90,7 +91,7 @@ pub(crate) fn made_by(report: &Report, worker: usize, number: usize) -> Option<u
     }
 }
 
-/// The entry of the journal of the tree that it cites. Our own.
+/// The entry of the journal of the tree that it cites.
 pub(crate) fn cited_by(report: &Report, worker: usize, number: usize) -> Option<u32>
     ensures { option_to_list result ≡ of_answer report.now (serial_of worker number)
         (λ (a : Answered). tree_cited a.reply) }
@@ -101,7 +102,7 @@ pub(crate) fn cited_by(report: &Report, worker: usize, number: usize) -> Option<
     }
 }
 
-/// How many entries of the journal of the tree it tells of. Our own.
+/// How many entries of the journal of the tree it tells of.
 pub(crate) fn tree_seen(report: &Report, worker: usize, number: usize) -> Option<u32>
     ensures { option_to_list result ≡ of_answer report.now (serial_of worker number) tree_seen }
 {
@@ -111,7 +112,7 @@ pub(crate) fn tree_seen(report: &Report, worker: usize, number: usize) -> Option
     }
 }
 
-/// The walks of a worker, none past the last part. Our own.
+/// The walks of a worker, none past the last part.
 pub(crate) fn walks_of(report: &Report, worker: usize) -> &[WalkRecord]
     ensures { result.now ≡ walks_of report.now worker }
 {

@@ -1,3 +1,4 @@
+-- SPDX-License-Identifier: GPL-2.0-only
 -- The isolations of commands, gone through worker by worker.
 use Rattle.shr_audit_isolations.proofs.Common.{◌≡◌, ℕ, zero, suc, ◌<◌, Bool, true, false, cond, List, [], ◌∷◌, length, get_or, Option, Some, None, refl, sym, ap, subst, ◌∙◌, arith, nat_lt, nat_le, slice_get, Decides, nat_tests, slice_get-get_or, slice_get_within, WorkerPart, Answered, Script, Isolation, Report, isolations_by, isolations_told, isolations_in, EachAnswer, EachItem, all_at, clash, TellsIsolations, PartTellsIsolations, ◌≤◌, ◌==◌, ◌&&◌, filter, IsNonDecreasingBy-from_all_adjacent, commands_of, serial_of, IsWorkerCommand, below_of, IsolationsByCommand, isolations_with}
 use Rattle.std.specs.List.Sorted.{IsPartitionedBy, IsNonDecreasingBy}

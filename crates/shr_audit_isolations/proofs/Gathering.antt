@@ -1,3 +1,4 @@
+-- SPDX-License-Identifier: GPL-2.0-only
 -- Entries gathered one after another.
 use Rattle.shr_audit_isolations.proofs.Common.{◌≡◌, ℕ, ◌+◌, ◌-◌, ◌<◌, Bool, true, false, cond, List, [], ◌∷◌, ◌++◌, length, get_or, take, Option, Some, refl, sym, ap, subst, ◌∙◌, slice_get, option_map, Vec, Decides, IsSomeAnd, Global, append-nil, slice_get-get_or, Entry, Add, Look, Drop, Pin, Scan, MovedIn, Closed, Drained, Place, is_place, ScanSeen, first_isolation, isolation_walk, scans_seen, EachItem, each_more, fails, Gathered, GainsScans, IsOfTold, IsolationTold, at_place, told_at, with_scans, append_assoc, take_more, scan_seen}
 use Rattle.std.proofs.lemmas.List.Elements.{filter_map-append}

@@ -1,3 +1,4 @@
+-- SPDX-License-Identifier: GPL-2.0-only
 -- Lists gathered one after another, and what is gathered of all.
 use Rattle.shr_audit_isolations.proofs.Common.{◌≡◌, ℕ, zero, suc, ◌+◌, ◌-◌, ◌<◌, Bool, true, false, cond, List, [], ◌∷◌, ◌++◌, length, get_or, map, take, Option, Some, None, refl, sym, ap, subst, ◌∙◌, arith, slice_get, option_map, Vec, Decides, IsSomeAnd, Global, append-nil, slice_get-get_or, slice_get_within, WorkerPart, Entry, Add, Look, Drop, Pin, Scan, MovedIn, Closed, Drained, Place, Script, Isolation, is_place, first_isolation, isolation_walk, Report, IsOfIsolation, isolations_by, isolations_told, scans_seen, EachAnswer, EachEntry, isolations_in, EachItem, clash, fails, Gathered, AreGathered, GainsScans, IsGatheringBegun, IsOfTheirs, IsOfTold, IsolationTold, at_place, begun, journals_to, told_at, told_of, with_scans, AreRowsRight, IsToldRight, inl, inr, below_more, is_some, option_to_list, length-map, take_all, slice_get-map, AreIsolationsLawful, isolation_at, journal_of, journals_of, gathered_of, new_at, gathered_row, AreGatheredRight}
 use Rattle.std.proofs.lemmas.Bool.{cases_Bool}

@@ -1,3 +1,4 @@
+-- SPDX-License-Identifier: GPL-2.0-only
 -- What scans met, and isolations that are lawful with them.
 use Rattle.shr_audit_isolations.proofs.Common.{◌≡◌, ℕ, zero, suc, Bool, List, [], ◌∷◌, length, map, Option, Some, refl, sym, ap, subst, ◌∙◌, arith, sum_by, Decides, slice_get_within, IsLawfulIsolation, ScanSeen, met_one, mets_of, Isolation, EachItem, IsolationScan, seen_of, IsAskedAlike, IsBounded, isolation_freed, met_by, replicate, sum, Met, met_of}
 use Rattle.std.specs.List.{AllByRecursion}

@@ -1,3 +1,4 @@
+-- SPDX-License-Identifier: GPL-2.0-only
 -- What is made of whatever an option has.
 use Rattle.shr_audit_isolations.proofs.Common.{◌≡◌, Option, Some, None, refl, sym, ap, option_map, IsSomeAnd}
 

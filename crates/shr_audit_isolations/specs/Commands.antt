@@ -1,3 +1,4 @@
+-- SPDX-License-Identifier: GPL-2.0-only
 -- The isolations of a command, in the part of its worker. No public clause cites this.
 use Rattle.std.specs.Prelude.{◌≡◌, ◌==◌, ℕ, ◌≤◌, List, filter, slice_get, Some}
 use Rattle.shr_base.specs.declared.ends.WorkerPart.{WorkerPart}

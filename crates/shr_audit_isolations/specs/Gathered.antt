@@ -1,3 +1,4 @@
+-- SPDX-License-Identifier: GPL-2.0-only
 -- The Scan entries of each isolation, gathered from the journals. No public clause cites this.
 use Rattle.std.specs.Prelude.{◌≡◌, ℕ, ◌-◌, ◌≤◌, ◌==◌, ◌&&◌, cond, is_some, List, [], ◌∷◌, ◌++◌, length, map, take, slice_get, Option, Some, None, option_map, option_to_list, Vec, ⊤}
 use Rattle.std.specs.Option.{IsSomeAnd}

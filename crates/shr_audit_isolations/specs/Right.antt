@@ -1,3 +1,4 @@
+-- SPDX-License-Identifier: GPL-2.0-only
 -- What is so of an isolation with the scans that were gathered of it. No public clause cites this.
 use Rattle.std.specs.Prelude.{◌≡◌, ℕ, true, List, slice_get, Option, Some, option_and_then, Vec}
 use Rattle.std.specs.declared.alloc.Global.{Global}

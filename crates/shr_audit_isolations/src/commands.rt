@@ -1,3 +1,4 @@
+// SPDX-License-Identifier: GPL-2.0-only
 //! The isolations of each command.
 
 ghost use Rattle.std.specs.Prelude.{◌≡◌, ◌==◌, ℕ, ◌<◌, ◌≤◌, ◌∷◌, [], filter, length, slice_get, Some};
@@ -153,7 +154,7 @@ fn is_part_told(script: &Script, worker: usize, part: &WorkerPart) -> bool
     true
 }
 
-/// The same of all workers. Our own.
+/// The same of all workers.
 pub(crate) fn are_told(script: &Script, report: &Report) -> bool
     requires { IsWellFormed report.now }
     ensures { Decides result (EachAnswer script.now report.now (λ by c a.

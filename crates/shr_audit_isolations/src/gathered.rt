@@ -1,3 +1,4 @@
+// SPDX-License-Identifier: GPL-2.0-only
 //! The Scan entries of each isolation, gathered from the journals.
 
 ghost use Rattle.std.specs.Prelude.{◌≡◌, ℕ, ◌<◌, ◌∷◌, [], length, map, slice_get, option_map, IfOk, IfSome, IfNone, IsTrue};
@@ -20,10 +21,9 @@ use shr_laws::report::Report;
 use std::alloc::Global;
 
 /// What stands as walk in the Scan entries of a worker's first isolation: walks have lower numbers.
-/// Our own.
 const FIRST_ISOLATION: u64 = 0x8000_0000_0000_0000;
 
-/// A Scan entry of an isolation. Our own.
+/// A Scan entry of an isolation.
 #[derive(Clone, Copy, Debug, PartialEq, Eq)]
 pub struct IsolationScan {
     pub asked: u32,
@@ -33,7 +33,7 @@ pub struct IsolationScan {
     pub stopped: bool,
 }
 
-/// An isolation with the Scan entries that name it, in the order of their journal. Our own.
+/// An isolation with the Scan entries that name it, in the order of their journal.
 #[derive(Drop)]
 pub struct Gathered {
     pub isolation: Isolation,
@@ -212,7 +212,7 @@ fn gather_lists(table: &mut Vec<Vec<Gathered>>, ends: &[PlaceEnd]) -> Result<boo
 }
 
 /// The isolations of a report, by worker and number, each with the Scan entries that name it;
-/// nothing if a Scan entry names an isolation that isn't there or is of another place. Our own.
+/// nothing if a Scan entry names an isolation that isn't there or is of another place.
 pub fn gather(alloc: Global, report: &Report) -> Result<Option<Vec<Vec<Gathered>>>, Memory>
     requires { AreInOrder report.now.places.items }
     ensures some { IfOk result (λ o. IfSome o (λ table.

@@ -1,3 +1,4 @@
+// SPDX-License-Identifier: GPL-2.0-only
 //! The law on isolations.
 
 ghost use Rattle.std.specs.Prelude.{IfOk};
@@ -40,8 +41,6 @@ fn are_gathered_right(
 /// Whether the law on isolations holds: each is lawful with its Scan entries and ended for a reason
 /// that the report has, each command has those that its answer tells of, and no other scan was made.
 /// It keeps 20 bytes for each Scan entry of an isolation; want of that memory alone is an error.
-///
-/// Our own.
 pub fn are_isolations_lawful(
     alloc: Global,
     script: &Script,

@@ -1,3 +1,4 @@
+// SPDX-License-Identifier: GPL-2.0-only
 //! Whether an isolation is lawful with the scans that it made.
 
 ghost use Rattle.std.specs.Prelude.{◌≡◌, ◌++◌, ◌∷◌, [], map, replicate, sum_by};
@@ -104,8 +105,7 @@ fn is_bounded(isolation: &Isolation) -> bool
     }
 }
 
-/// Whether an isolation of a list with this policy made these scans, and is lawful with them. Our
-/// own.
+/// Whether an isolation of a list with this policy made these scans, and is lawful with them.
 pub fn is_lawful(policy: Policy, scans: &[IsolationScan], isolation: &Isolation) -> bool
     ensures { Decides result (IsLawfulIsolation policy (map seen_of scans.now) isolation.now) }
 {

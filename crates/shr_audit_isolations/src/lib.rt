@@ -1,4 +1,5 @@
-//! Whether isolations are lawful. Our own.
+// SPDX-License-Identifier: GPL-2.0-only
+//! Whether isolations are lawful.
 #![tactic(auto)]
 
 pub mod commands;

@@ -1,3 +1,4 @@
+// SPDX-License-Identifier: GPL-2.0-only
 //! Whether each isolation is lawful, and ended for a reason that the report has.
 
 ghost use Rattle.std.specs.Prelude.{◌≡◌, ◌<◌, length, option_copied};
@@ -125,7 +126,7 @@ fn is_row_right(
     true
 }
 
-/// The same of all workers. Our own.
+/// The same of all workers.
 pub(crate) fn are_rows_right(
     script: &Script,
     report: &Report,

@@ -1,3 +1,4 @@
+-- SPDX-License-Identifier: GPL-2.0-only
 -- Entries that may stand where they do, against a table of the lists that were moved in.
 use Rattle.shr_audit_lists.proofs.Common.{◌≡◌, ℕ, zero, suc, ◌+◌, ◌<◌, ◌≤◌, Bool, true, false, List, [], ◌∷◌, ◌++◌, length, length-append, get_or, take, Option, Some, None, refl, sym, ap, subst, ◌∙◌, ◌⊎◌, inl, inr, arith, ◌||◌, slice_get, Contains, Decides, list_any, cases_order, get_or_append_left, get_or-append_seam, get_or_from_slice_get, slice_get_within, Place, Entry, Add, Look, Drop, Pin, Scan, MovedIn, Closed, Drained, IsTree, is_child, parent_of, path_of, is_closed, MayStand, child_of, moved_in, child_takes, child_again, path_of-root, path_of-below, Has, Has_from_Contains, Contains_from_Has, Report, journals_of, EachFirst, AreMovesTold, IsMovedChild, IsPlaceStanding, ◌≢◌, set, ◌↔◌, not, take_more, get_or-set_same, get_or-set_other, length-set, IsAtOrAbove, is_closing, AreChildrenMovedIn, IsAllowed, IsBornAt, child_higher, AreStanding}
 use Rattle.std.proofs.lemmas.List.Elements.{filter_map-append}

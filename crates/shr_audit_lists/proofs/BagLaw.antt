@@ -1,3 +1,4 @@
+-- SPDX-License-Identifier: GPL-2.0-only
 -- The bag of a report, by the serials that were added, were freed and are left.
 use Rattle.shr_audit_lists.proofs.BagCommon.{◌≡◌, ℕ, ◌+◌, ◌-◌, List, [], ◌∷◌, ◌++◌, length, map, sym, ap, ◌∙◌, arith, flat_map, Place, Serial, Entry, PlaceEnd, serials_of, journals_of, freed_serial, left_serial, Bool, true, false, refl, subst, length-append, IsPermutation, added_in, freed_in, listed_in, AreDistinct, IsBag, parents_of, places_of, IsGone}
 use Rattle.std.specs.Bool.{Decides}

@@ -1,3 +1,4 @@
+-- SPDX-License-Identifier: GPL-2.0-only
 -- Which groups began to go offline, or are below one that did.
 use Rattle.shr_audit_lists.proofs.Common.{◌≡◌, ℕ, ◌+◌, ◌<◌, Bool, true, false, List, [], ◌∷◌, ◌++◌, length, length-append, get_or, refl, sym, ap, subst, ◌∙◌, ◌⊎◌, inl, inr, arith, Contains, Decides, cases_order, get_or_append_left, get_or-append_seam, Place, Entry, TreeEntry, Begin, IsTree, parent_of, path_of, is_closed, path_of-root, path_of-below, Has, Has_from_Contains, Contains_from_Has, Report, journals_of, EachFirst, AreBegun, AreBegunIfClosed, HasBegunAbove, IsBegunIfClosed}
 use Rattle.shr_audit_lists.proofs.Journals.{each_printed_of}

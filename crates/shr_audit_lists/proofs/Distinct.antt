@@ -1,3 +1,4 @@
+-- SPDX-License-Identifier: GPL-2.0-only
 -- Serials of which none comes twice.
 use Rattle.shr_audit_lists.proofs.SerialsCommon.{◌≡◌, ◌≢◌, ℕ, zero, suc, ◌+◌, ◌<◌, ◌≤◌, Bool, true, false, cond, List, [], ◌∷◌, length, get_or, refl, sym, ap, subst, ◌∙◌, inl, inr, arith, sum_by, IsPermutation, IsNonDecreasingBy, cases_Bool, sum_by-cons, sum_by-IsPermutation, IsPermutation-sym, Serial, serial_key, ◌&&◌, ◌==◌, and_parts, and_from, eq-eqb, eqb-true}
 use Rattle.std.specs.List.{AllByRecursion}

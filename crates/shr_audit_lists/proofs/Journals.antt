@@ -1,3 +1,4 @@
+-- SPDX-License-Identifier: GPL-2.0-only
 -- Fields of the law on journals, against loops over the lists.
 use Rattle.shr_audit_lists.proofs.Common.{◌≡◌, ℕ, ◌+◌, ◌<◌, ◌≤◌, Bool, true, false, List, [], length, get_or, Some, refl, sym, ap, subst, ◌⊎◌, inl, inr, arith, slice_get, Contains, Decides, cases_order, get_or_from_slice_get, Place, PlaceEnd, Entry, Done, Script, Report, journal_of, journals_of, parents_of, EachFirst, IsFirst, decides_iff, found_or_none, AreDoneClosed, ArePrintedOnce, AreOutcomesSo, ArePlacesOnce, IsClosedAt, IsOutcomeSo, length-map, lists_moved_at}
 use Rattle.shr_base.specs.declared.scripts.GroupDecl.{GroupDecl}

@@ -1,3 +1,4 @@
+-- SPDX-License-Identifier: GPL-2.0-only
 -- Fields of the law on journals, at known values.
 use Rattle.shr_audit_lists.proofs.Common.{false, ◌≡◌, ℕ, zero, suc, ◌<◌, Option, Some, None, List, [], ◌∷◌, refl, ap, subst, arith, true, inl, inr, slice_get, slice_get_within, PlaceEnd, Place, Closed, Drop, MovedIn, Begin, Done, Report, IsThere, parents_of, Has, Has_from_Contains, AreBegun, AreBegunIfClosed, HaveGroups, HasBegunAbove, IsBegunIfClosed, IsPairedAround, moves, AreDoneClosed, ArePrintedOnce, AreOutcomesSo, ArePlacesOnce, ArePlacesThere, IsClosedAt, IsOutcomeSo, codes, AreChildrenPaired, IsOwnPaired}
 use Rattle.shr_base.specs.declared.journals.DropKind.TheVariants as kind

@@ -1,3 +1,4 @@
+-- SPDX-License-Identifier: GPL-2.0-only
 -- What is so of each item with its number, while a list is gone through.
 use Rattle.shr_audit_lists.proofs.Common.{◌≡◌, ℕ, ◌+◌, ◌<◌, ◌≤◌, Bool, true, false, List, length, Some, refl, sym, subst, ◌⊎◌, inl, inr, arith, slice_get, Decides, cases_order, slice_get_within, slice_get_cases}
 

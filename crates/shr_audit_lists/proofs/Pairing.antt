@@ -1,3 +1,4 @@
+-- SPDX-License-Identifier: GPL-2.0-only
 -- Lists of children and of their parents that fit, against a loop over the lists.
 use Rattle.shr_audit_lists.proofs.Common.{◌≡◌, ℕ, Bool, true, false, List, [], ◌∷◌, refl, sym, ap, subst, ◌∙◌, ◌⊎◌, inl, inr, ◌||◌, Contains, Decides, list_any, eqb-true, eq-eqb, Place, PlaceEnd, Entry, Add, Look, Drop, Pin, Scan, MovedIn, Closed, Drained, parent_of, at_group, is_closed, IsPaired, moved_in, child_takes, child_again, Has, Has_from_Contains, Contains_from_Has, Report, journal_of, journals_of, EachFirst, IsFirst, decides_iff, found_or_none, IsPairedAround, moves, ◌==◌, IsFound}
 use Rattle.shr_report.proofs.Reading.{either}

@@ -1,3 +1,4 @@
+-- SPDX-License-Identifier: GPL-2.0-only
 -- The phases of ids, entry by entry.
 use Rattle.shr_audit_lists.proofs.BitsCommon.{◌≡◌, ◌≢◌, ℕ, ◌+◌, ◌%◌, ◌<◌, List, [], ◌∷◌, ◌++◌, length, get_or, refl, sym, ap, subst, ◌∙◌, arith, dite, ℕ_discrete, eq-eqb, ne_eqb, PoolEntry, ArePhases, zero_more, set, get_or-set_same, get_or-set_other, length-set}
 use Rattle.shr_model.specs.Pool.{id_of, phase_of}

@@ -1,3 +1,4 @@
+-- SPDX-License-Identifier: GPL-2.0-only
 -- The bit of a place, by what is told of it.
 use Rattle.shr_audit_lists.proofs.BitsCommon.{◌≡◌, ◌≢◌, ℕ, ◌%◌, Bool, true, false, List, [], ◌∷◌, length, Some, refl, sym, ap, subst, ◌∙◌, inl, inr, arith, slice_get, eqb-true, eq-eqb, Place, PlaceEnd, Report, is_set_at, IsSetIfLive, map, AreBitsLawful}
 use Rattle.std.specs.Bool.{Decides}

@@ -1,3 +1,4 @@
+-- SPDX-License-Identifier: GPL-2.0-only
 -- Sorted numbers with the same sums are the same, and so are sorted serials with the same keys.
 use Rattle.shr_audit_lists.proofs.SerialsCommon.{◌≡◌, ◌≢◌, ℕ, zero, suc, ◌+◌, ◌<◌, ◌≤◌, Bool, true, false, cond, List, [], ◌∷◌, length, get_or, map, refl, sym, ap, subst, ◌∙◌, inl, inr, arith, sum_by, IsPermutation, Decides, IsNonDecreasingBy, cases_Bool, sum_by-cons, sum_by-IsPermutation, IsPermutation-sym, Serial, AreDistinct, serial_key, ◌⊎◌, nat_lt, ltb-true, ltb-false, lt-ltb, IsPermutation-map, IsPermutation-trans}
 use Rattle.shr_audit_lists.proofs.Distinct.{distinct_again, distinct_before}

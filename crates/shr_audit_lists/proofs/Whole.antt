@@ -1,3 +1,4 @@
+-- SPDX-License-Identifier: GPL-2.0-only
 -- The objects that are printed for a place, where no place is printed twice; and the whole law on journals.
 use Rattle.shr_audit_lists.proofs.Common.{◌≡◌, ℕ, ◌<◌, Bool, true, false, List, get_or, Some, refl, sym, ap, subst, ◌∙◌, arith, length, slice_get, Decides, get_or_from_slice_get, Place, PlaceEnd, Script, IsPaired, Report, AreJournalsLawful, journals_of, parents_of, IsFirst, AreBegunIfClosed, HaveGroups, AreDoneClosed, AreItemsLeft, AreOutcomesSo, ArePlacesOnce, ArePlacesThere, IsItemsLeft, IsPlaceStanding, items_of, first_found}
 use Rattle.shr_base.specs.declared.objects.Object.{Object}

@@ -1,3 +1,4 @@
+-- SPDX-License-Identifier: GPL-2.0-only
 -- Bit words by their numbers.
 use Rattle.shr_audit_lists.proofs.BitsCommon.{◌≡◌, ◌≢◌, ℕ, ◌<◌, Bool, true, false, List, [], ◌∷◌, ◌++◌, Some, refl, sym, ap, ◌∙◌, inl, inr, arith, dite, ℕ_discrete, eqb-true, eq-eqb, ne_eqb, MapEnd, Place, Report, is_set_at, AreWords, ◌^◌, cond, Option, None, ◌&&◌, ◌==◌, nat_eq, find, is_some, option_map, cases_Bool, and_parts, and_from, has_bit, shows_bit, Words, map_key, word_at, word_key}
 use Rattle.std.specs.HashMap.{get}

@@ -1,3 +1,4 @@
+-- SPDX-License-Identifier: GPL-2.0-only
 -- Lists that are closed, and the groups that began to go offline.
 use Rattle.std.specs.Prelude.{◌≡◌, ℕ, ◌<◌, Bool, true, false, List, length, slice_get, slice_index_or, Some, Contains}
 use Rattle.std.specs.Bool.{Decides}

@@ -1,3 +1,4 @@
+-- SPDX-License-Identifier: GPL-2.0-only
 -- Fields of the law on journals, each by itself.
 use Rattle.std.specs.Prelude.{◌≡◌, ℕ, true, List, [], slice_get, Some, Contains}
 use Rattle.shr_base.specs.declared.places.Place.{Place}

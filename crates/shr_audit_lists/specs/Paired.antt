@@ -1,3 +1,4 @@
+-- SPDX-License-Identifier: GPL-2.0-only
 -- A child's list that is closed, and the entry of its parent's that moved it in.
 use Rattle.std.specs.Prelude.{◌≡◌, ℕ, ◌<◌, Bool, true, false, ◌==◌, List, length}
 use Rattle.shr_base.specs.declared.places.Place.{Place}

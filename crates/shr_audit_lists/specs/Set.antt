@@ -1,3 +1,4 @@
+-- SPDX-License-Identifier: GPL-2.0-only
 -- The bit of a place, if it must be set. No public clause cites this.
 use Rattle.std.specs.Prelude.{◌≡◌, ◌≢◌, ℕ, ◌<◌, ◌%◌, true, List, [], length, slice_index}
 use Rattle.shr_base.specs.declared.journals.PoolEntry.{PoolEntry}

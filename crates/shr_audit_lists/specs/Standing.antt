@@ -1,3 +1,4 @@
+-- SPDX-License-Identifier: GPL-2.0-only
 -- Entries that may stand where they do.
 use Rattle.std.specs.Prelude.{◌≡◌, ℕ, ◌<◌, Bool, false, List, length, take, slice_get, slice_index_or, Some, Contains}
 use Rattle.std.specs.Bool.{Decides}

@@ -1,3 +1,4 @@
+-- SPDX-License-Identifier: GPL-2.0-only
 -- The bit words that are printed, by node, group and unit. No public clause cites this.
 use Rattle.std.specs.Prelude.{◌≡◌, ℕ, ◌+◌, ◌*◌, ◌==◌, nat_eq, List, find, Option, option_map}
 use Rattle.std.specs.declared.hash.FoldHasher.{FoldHasher}

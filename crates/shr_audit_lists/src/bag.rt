@@ -1,3 +1,4 @@
+// SPDX-License-Identifier: GPL-2.0-only
 //! The bag of a report.
 
 ghost use Rattle.std.specs.Prelude.{◌≡◌, IfOk};
@@ -23,7 +24,7 @@ fn are_totals(report: &Report, added: usize, freed: usize, listed: usize) -> boo
 }
 
 /// Whether each object that was added was freed once or is listed once, and the totals of the report
-/// say how many. Our own.
+/// say how many.
 pub fn is_bag_lawful(
     alloc: Global,
     script: &Script,

@@ -1,3 +1,4 @@
+// SPDX-License-Identifier: GPL-2.0-only
 //! Whether two lists have the same serials, and whether none comes twice.
 
 ghost use Rattle.std.specs.Prelude.{◌≡◌, ◌≢◌, true, false, map, IsPermutation, IfOk};
@@ -66,7 +67,7 @@ fn are_same(a: &[Serial], b: &[Serial]) -> bool
 }
 
 /// Whether no serial comes twice in the first list, and the second has the same serials in some
-/// order. It sorts both. Our own.
+/// order. It sorts both.
 pub fn is_bag_of(added: Vec<Serial>, parts: Vec<Serial>) -> Result<bool, Memory>
     ensures { IfOk result (λ b. Decides b (AreDistinct added.items
         × IsPermutation added.items parts.items)) }

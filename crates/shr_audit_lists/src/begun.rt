@@ -1,3 +1,4 @@
+// SPDX-License-Identifier: GPL-2.0-only
 //! Lists that are closed only where a group at or above their own began to go offline.
 
 ghost use Rattle.std.specs.Prelude.{◌≡◌, ℕ, ◌<◌, List, Some, length, slice_get, Contains, IfOk};
@@ -110,7 +111,7 @@ fn are_lists_begun(report: &Report, begun: &[bool]) -> bool
 }
 
 /// Whether each list that is closed is of a group that began to go offline, or one above which did.
-/// It wants places of groups that are there. Our own.
+/// It wants places of groups that are there.
 pub fn are_closed_begun(alloc: Global, parents: &[u16], report: &Report) -> Result<bool, Memory>
     requires tree { IsTree parents.now }
     requires order { AreInOrder report.now.places.items }

@@ -1,3 +1,4 @@
+// SPDX-License-Identifier: GPL-2.0-only
 //! The bits of a report.
 
 ghost use Rattle.std.specs.Prelude.{◌≡◌, ℕ, ◌<◌, ◌%◌, List, Some, length, slice_get, IfOk};
@@ -95,7 +96,7 @@ fn are_lists_set(report: &Report, case: &Case, words: &HashMap<u64, u64>, phases
 }
 
 /// Whether each place below the root that has objects at the end, and whose id is live, has its bit
-/// set. Our own.
+/// set.
 pub fn are_bits_lawful(
     alloc: Global,
     script: &Script,

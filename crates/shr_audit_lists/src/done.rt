@@ -1,3 +1,4 @@
+// SPDX-License-Identifier: GPL-2.0-only
 //! The lists of groups that went offline.
 
 ghost use Rattle.std.specs.Prelude.{◌≡◌, ℕ, ◌<◌, ◌≤◌, length, Contains};
@@ -14,14 +15,14 @@ use shr_base::places::Place;
 use shr_base::scripts::Script;
 use shr_laws::report::Report;
 
-/// Whether an entry closes its list. Our own.
+/// Whether an entry closes its list.
 pub(crate) fn is_closing(entry: &Entry) -> bool
     ensures { result ≡ is_closing entry.now }
 {
     matches!(entry, Entry::Closed)
 }
 
-/// Whether a Closed stands in a journal. Our own.
+/// Whether a Closed stands in a journal.
 pub(crate) fn is_closed(entries: &[Entry]) -> bool
     ensures { result ≡ is_closed entries.now }
 {
@@ -74,7 +75,7 @@ fn is_group_closed(report: &Report, ids: u16, nodes: u8, group: u16) -> bool
     true
 }
 
-/// Whether each list of a group that is done is closed. Our own.
+/// Whether each list of a group that is done is closed.
 pub fn are_done_closed(script: &Script, report: &Report) -> bool
     requires order { AreInOrder report.now.places.items }
     requires few { length (parents_of script.now) ≤ 65536 }

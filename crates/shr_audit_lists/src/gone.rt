@@ -1,3 +1,4 @@
+// SPDX-License-Identifier: GPL-2.0-only
 //! The serials of objects that journals freed, and of those that they leave.
 
 ghost use Rattle.std.specs.Prelude.{◌≡◌, ◌++◌, length, map, IfOk, OnOk};
@@ -15,7 +16,7 @@ use shr_laws::report::Report;
 use std::alloc::Global;
 
 /// The serials of the objects that were freed and then of those that are left, and how many of the
-/// first there are. Our own.
+/// first there are.
 #[derive(Drop)]
 pub(crate) struct Gone {
     pub(crate) serials: Vec<Serial>,
@@ -96,7 +97,7 @@ fn note_all_left(serials: &mut Vec<Serial>, report: &Report, case: &Case) -> Res
     Ok(())
 }
 
-/// The serials of all objects that were freed, and of those that are left. Our own.
+/// The serials of all objects that were freed, and of those that are left.
 pub(crate) fn gone_serials(alloc: Global, report: &Report, case: &Case) -> Result<Gone, Memory>
     requires { IsReplayOf report.now case.now }
     ensures { IfOk result (λ g. IsGone case.now.parents.items report.now g) }

@@ -1,3 +1,4 @@
+// SPDX-License-Identifier: GPL-2.0-only
 //! The law on journals.
 
 ghost use Rattle.std.specs.Prelude.{◌≤◌, length, IfOk};
@@ -21,7 +22,7 @@ use std::alloc::Global;
 
 /// Whether the journals of a report are lawful for a script: places of the script, each printed once,
 /// whose journals are legal, fit together and leave the objects that are printed, and lists that are
-/// closed where their groups went offline. Our own.
+/// closed where their groups went offline.
 pub fn are_journals_lawful(
     alloc: Global,
     script: &Script,

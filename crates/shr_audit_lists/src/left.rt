@@ -1,3 +1,4 @@
+// SPDX-License-Identifier: GPL-2.0-only
 //! The objects that are printed, against those that journals leave.
 
 ghost use Rattle.std.specs.Prelude.{◌≡◌, ◌<◌, Some, length, slice_get};
@@ -23,7 +24,7 @@ fn is_list_left(report: &Report, case: &Case, k: usize) -> bool
 }
 
 /// Whether the objects that are printed are those that the journals leave. It wants places of which
-/// none is printed twice. Our own.
+/// none is printed twice.
 pub fn are_items_left(report: &Report, case: &Case) -> bool
     requires replayed { IsReplayOf report.now case.now }
     requires once { ArePlacesOnce report.now }

@@ -1,10 +1,5 @@
-//! Whether the journals of a report are lawful for a script. Our own.
-//!
-//! Whether the bag of a report is lawful for a script, and its bits. Our own.
-//!
-//! Whether the bits of a report are lawful. Our own.
-//!
-//! Lists of serials as bags. Our own.
+// SPDX-License-Identifier: GPL-2.0-only
+//! Whether the journals, the bag of objects and the bits of a report are lawful for a script.
 #![tactic(auto)]
 
 pub mod bag;

@@ -1,3 +1,4 @@
+// SPDX-License-Identifier: GPL-2.0-only
 //! The serials of objects that journals added.
 
 ghost use Rattle.std.specs.Prelude.{◌≡◌, ◌++◌, IfOk, OnOk};
@@ -37,7 +38,7 @@ fn note_journal(serials: &mut Vec<Serial>, entries: &[Entry]) -> Result<(), Memo
     Ok(())
 }
 
-/// The serials that the journals of a report added. Our own.
+/// The serials that the journals of a report added.
 pub(crate) fn added_serials(alloc: Global, report: &Report) -> Result<Vec<Serial>, Memory>
     requires { AreInOrder report.now.places.items }
     ensures { IfOk result (λ v. v.items ≡ added_in (places_of report.now)

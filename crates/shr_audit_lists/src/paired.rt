@@ -1,3 +1,4 @@
+// SPDX-License-Identifier: GPL-2.0-only
 //! A child's list that is closed, and the entry of its parent's that moved it in.
 
 ghost use Rattle.std.specs.Prelude.{◌≡◌, ◌<◌, ◌≤◌, true, Some, length, slice_get, Contains};
@@ -158,8 +159,7 @@ fn are_lists_paired(report: &Report, parents: &[u16]) -> bool
     true
 }
 
-/// Whether a list below the root is closed if and only if that of its parent group moved it in. Our
-/// own.
+/// Whether a list below the root is closed if and only if that of its parent group moved it in.
 pub fn are_journals_paired(report: &Report, parents: &[u16]) -> bool
     requires order { AreInOrder report.now.places.items }
     requires few { length parents.now ≤ 65536 }

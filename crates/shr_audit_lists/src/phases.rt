@@ -1,3 +1,4 @@
+// SPDX-License-Identifier: GPL-2.0-only
 //! The phase of each id at the end.
 
 ghost use Rattle.std.specs.Prelude.{◌≡◌, ◌+◌, ◌%◌, ◌<◌, List, [], ◌∷◌, ◌++◌, length, IfOk};
@@ -51,7 +52,7 @@ fn note_entry(phases: &mut Vec<u8>, entry: &PoolEntry)
     phases[id as usize] = phase;
 }
 
-/// The phase of each id behind the journal of registrations, modulo 3. Our own.
+/// The phase of each id behind the journal of registrations, modulo 3.
 pub(crate) fn phases_of(alloc: Global, pool: &[PoolEntry]) -> Result<Vec<u8>, Memory>
     ensures { IfOk result (λ phases. ArePhases pool.now phases.items) }
 {

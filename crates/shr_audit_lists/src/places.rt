@@ -1,3 +1,4 @@
+// SPDX-License-Identifier: GPL-2.0-only
 //! The places that are printed, and the outcomes of their journals.
 
 ghost use Rattle.std.specs.Prelude.{◌≡◌, ℕ, ◌<◌, Some, length, slice_get};
@@ -25,7 +26,7 @@ fn is_there(script: &Script, place: Place) -> bool
         && place.group as usize <= script.groups.len()
 }
 
-/// Whether each place that is printed is one of the script. Our own.
+/// Whether each place that is printed is one of the script.
 pub fn are_places_there(script: &Script, report: &Report) -> bool
     ensures { Decides result (ArePlacesThere script.now report.now) }
 {
@@ -50,7 +51,7 @@ fn are_firsts(ends: &[PlaceEnd]) -> bool
     true
 }
 
-/// Whether no place is printed twice. Our own.
+/// Whether no place is printed twice.
 pub fn are_places_once(report: &Report) -> bool
     requires { AreInOrder report.now.places.items }
     ensures { Decides result (ArePlacesOnce report.now) }
@@ -90,7 +91,7 @@ fn are_outcomes_printed(report: &Report, case: &Case) -> bool
     true
 }
 
-/// Whether each entry of each journal says of its outcome what is so. Our own.
+/// Whether each entry of each journal says of its outcome what is so.
 pub fn are_outcomes_so(report: &Report, case: &Case) -> bool
     requires { IsReplayOf report.now case.now }
     ensures { Decides result (AreOutcomesSo case.now.parents.items report.now) }

@@ -1,3 +1,4 @@
+// SPDX-License-Identifier: GPL-2.0-only
 //! Entries that may stand where they do.
 
 ghost use Rattle.std.specs.Prelude.{◌≡◌, ◌≢◌, ◌<◌, true, List, [], ◌∷◌, ◌++◌, Some, length, slice_get, Contains, IfOk};
@@ -260,7 +261,6 @@ fn are_lists_standing(alloc: Global, parents: &[u16], report: &Report) -> Result
 }
 
 /// Whether journals have entries only at groups of the tree, and each entry may stand where it does.
-/// Our own.
 pub fn are_entries_standing(alloc: Global, parents: &[u16], report: &Report) -> Result<bool, Memory>
     requires tree { IsTree parents.now }
     requires order { AreInOrder report.now.places.items }

@@ -1,3 +1,4 @@
+// SPDX-License-Identifier: GPL-2.0-only
 //! The bit words that are printed, by node, group and unit.
 
 ghost use Rattle.std.specs.Prelude.{◌≡◌, ◌<◌, ◌^◌, List, [], ◌∷◌, ◌++◌, IfOk, OnOk};
@@ -9,7 +10,7 @@ use shr_base::memory::Memory;
 use std::alloc::Global;
 use std::collections::HashMap;
 
-/// A node, a group and a unit by one number. Our own.
+/// A node, a group and a unit by one number.
 pub fn word_key(node: u8, group: u16, unit: u16) -> u64
     ensures key { result ≡ word_key node group unit }
     ensures group { group < 2 ^ 16 }
@@ -31,7 +32,7 @@ fn note_word(words: &mut HashMap<u64, u64>, map: &MapEnd) -> Result<(), Memory>
     Ok(())
 }
 
-/// The words by their numbers, of two with one number the first. Our own.
+/// The words by their numbers, of two with one number the first.
 pub(crate) fn words_of(alloc: Global, maps: &[MapEnd]) -> Result<HashMap<u64, u64>, Memory>
     ensures { IfOk result (λ w. AreWords maps.now w) }
 {

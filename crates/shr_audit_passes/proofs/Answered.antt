@@ -1,3 +1,4 @@
+-- SPDX-License-Identifier: GPL-2.0-only
 -- What commands are answered, gone through worker by worker.
 use Rattle.shr_audit_passes.proofs.Common.{◌≡◌, ℕ, suc, ◌<◌, ◌≤◌, Bool, true, false, cond, List, [], ◌∷◌, length, get_or, Option, Some, refl, sym, ap, subst, ◌∙◌, arith, ◌==◌, filter, slice_get, Decides, slice_get-get_or, nat_tests, WorkerPart, Answered, Script, WalkRecord, Report, serial_of, walks_in, EachItem, all_at, clash, StandByCommand, IsAnswerTold, IsPartTold, walks_with, ◌&&◌, command_at, walks_by, EachAnswer, IsWorkerCommand}
 use Rattle.shr_base.specs.declared.replies.Reply.{Reply}

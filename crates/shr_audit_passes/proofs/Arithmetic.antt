@@ -1,3 +1,4 @@
+-- SPDX-License-Identifier: GPL-2.0-only
 -- The arithmetic of a pass, by the number and the size of the asks that were due.
 use Rattle.shr_audit_passes.proofs.Common.{◌≡◌, ℕ, ◌*◌, ◌/◌, ◌<◌, ◌≤◌, Bool, true, false, take, refl, sym, ap, ◌∙◌, arith, nat_le, replicate, Decides, common_steps, nat_tests, PassRecord, due, ask_size, batch_of, total_of, next_of, MadeOf, ◌^◌, min, sum, length-replicate, due_asks, delta_of, FollowsArithmetic}
 use Rattle.std.proofs.Math.Nat.{pow-le-pow_right, div-eq_of_lt}

@@ -1,3 +1,4 @@
+-- SPDX-License-Identifier: GPL-2.0-only
 -- Counts that are right in the tree of a case are so in that of its script.
 use Rattle.shr_audit_passes.proofs.Common.{◌≡◌, ℕ, Bool, List, [], ◌∷◌, length, sym, ap, ◌∙◌, Decides, AllByRecursion, Script, WalkRecord, counts_of, place_in, Report, IsCountRight, parents_of, EachItem, IsCountIn, AreCountsIn, AreCountsAt, Count, journals_of, each_weaker}
 use Rattle.shr_base.specs.declared.places.Place.{Place}

@@ -1,3 +1,4 @@
+-- SPDX-License-Identifier: GPL-2.0-only
 -- What is so of each walk, gone through worker by worker.
 use Rattle.shr_audit_passes.proofs.Common.{◌≡◌, ℕ, ◌+◌, ◌<◌, ◌≤◌, Bool, true, false, List, length, get_or, Option, Some, sym, ap, subst, ◌∙◌, slice_get, Decides, slice_get-get_or, WalkRecord, WorkerPart, Report, walks_in, all_at, more_at, clash, EachWalk}
 use Rattle.shr_audit_case.proofs.Eachs.{each_walk_of}

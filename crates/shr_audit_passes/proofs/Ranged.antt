@@ -1,3 +1,4 @@
+-- SPDX-License-Identifier: GPL-2.0-only
 -- Items with rising keys: those of one key stand together.
 use Rattle.shr_audit_passes.proofs.Common.{◌≡◌, ℕ, zero, suc, ◌-◌, ◌<◌, ◌≤◌, Bool, true, false, cond, List, [], ◌∷◌, length, take, Some, refl, sym, ap, ◌∙◌, arith, ◌==◌, filter, nat_lt, nat_le, slice_get, nat_tests, common_steps, WalkRecord, StandByCommand, drop, IsNonDecreasingBy-from_all_adjacent, below_of}
 use Rattle.std.specs.List.Sorted.{IsPartitionedBy, IsNonDecreasingBy}

@@ -1,3 +1,4 @@
+-- SPDX-License-Identifier: GPL-2.0-only
 -- Numbers from 0 up, as far as they are seen, and the ids of the bits of a word.
 use Rattle.shr_audit_passes.proofs.Common.{◌≡◌, ℕ, zero, suc, ◌+◌, ◌*◌, ◌<◌, ◌≤◌, Bool, true, false, cond, List, [], ◌∷◌, ◌++◌, length, get_or, map, filter, take, refl, sym, ap, subst, ◌∙◌, arith, Decides, range_with_len, append-nil, length-map, common_steps, ids_in, append_assoc, map-append, get_or-map, map_more, take-map, is_set}
 use Rattle.std.proofs.lemmas.List.FromFn.{length-range_with_len, get_or-range_with_len}

@@ -1,3 +1,4 @@
+-- SPDX-License-Identifier: GPL-2.0-only
 -- The Scan entries of a pass, each by itself and all together.
 use Rattle.shr_audit_passes.proofs.Common.{◌≡◌, ℕ, zero, suc, ◌+◌, ◌-◌, ◌≤◌, Bool, false, List, [], ◌∷◌, length, take, map, Some, refl, sym, ap, subst, ◌∙◌, replicate, sum_by, slice_get, Decides, AllByRecursion, length-map, sum_by-cons, PassRecord, due, ask_size, batch_of, total_of, EachItem, ScanSeen, made_of_scan, freed_of_scan, IsScanAfter, take-replicate, AreScansOf, cache_asks_due, fails}
 use Rattle.shr_base.specs.declared.objects.Policy.{Policy}

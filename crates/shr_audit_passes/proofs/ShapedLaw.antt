@@ -1,3 +1,4 @@
+-- SPDX-License-Identifier: GPL-2.0-only
 -- What a walk shows by itself is what the law on walks asks of it in these fields.
 use Rattle.shr_audit_passes.proofs.Common.{◌≡◌, ℕ, true, Some, slice_get, AllByRecursion, Script, Attempt, PassRecord, WalkRecord, counts_of, pass_of, place_in, Report, IsCountRight, EachItem, IsShaped, AreCountsAt, IsKindAt, IsStopAt, is_held, is_cut, IsLawfulWalk, IsBegun, IsLastOfCut, IsStopped, IsOutcomeOf, EachPass, cache_of, EachAttempt}
 use Rattle.std.specs.Option.{IsSomeAnd}

@@ -1,3 +1,4 @@
+-- SPDX-License-Identifier: GPL-2.0-only
 -- The words before the last one, and what passes freed.
 use Rattle.shr_audit_passes.proofs.Common.{◌≡◌, ℕ, suc, ◌+◌, ◌-◌, ◌<◌, ◌≤◌, Bool, List, [], ◌∷◌, ◌++◌, length, take, Option, Some, None, refl, sym, ap, subst, ◌∙◌, arith, flat_map, sum_by, Decides, sum_by-cons, common_steps, Attempt, MapSeen, PassRecord, WalkRecord, pass_of, ids_in, AreTried, pass_freed, attempt_freed, filter_map, cons_option, length-append, freed_of}
 

@@ -1,3 +1,4 @@
+-- SPDX-License-Identifier: GPL-2.0-only
 -- What is asked of walks, at known values.
 use Rattle.shr_audit_passes.proofs.Common.{◌≡◌, ℕ, ◌≤◌, false, List, [], ◌∷◌, ◌++◌, length, None, refl, arith, flat_map, Attempt, MapSeen, PassRecord, WalkRecord, ids_in, parents_of, serial_of, IsCountIn, IsKindAt, IsStopAt, ScanSeen, AreTried, IsRoomAt, pass_freed, attempt_freed, made_of_scan, freed_of_scan, IsScanAfter, StandByCommand, IsAnswerTold, walks_with, as_count, IsBareOffline, IsWalkWhole, IsWalkMapped, IsOfRoot, AreFirstTries, IsRoomLast}
 use Rattle.shr_base.specs.declared.objects.Policy.TheVariants.{Plain, Halt}

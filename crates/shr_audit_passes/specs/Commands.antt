@@ -1,3 +1,4 @@
+-- SPDX-License-Identifier: GPL-2.0-only
 -- Walks in the order of their commands, and what these are answered.
 use Rattle.std.specs.Prelude.{◌≡◌, ◌==◌, ℕ, ◌≤◌, List, filter, slice_get, Some}
 use Rattle.shr_base.specs.declared.ends.WorkerPart.{WorkerPart}

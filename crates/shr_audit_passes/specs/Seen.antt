@@ -1,3 +1,4 @@
+-- SPDX-License-Identifier: GPL-2.0-only
 -- The ids of the bits of a word, taken one bit after another.
 use Rattle.std.specs.Prelude.{ℕ, ◌+◌, ◌*◌, List, map, filter}
 use Rattle.std.specs.List.{range_with_len}

@@ -1,3 +1,4 @@
+// SPDX-License-Identifier: GPL-2.0-only
 //! What a walk shows by itself, and against the number of ids of its script.
 
 ghost use Rattle.std.specs.Prelude.{◌≡◌, length, map, sum_by, IfOk};
@@ -19,7 +20,7 @@ use shr_base::scripts::Script;
 use shr_base::walks::{Ending, GoneThen, MapSeen, Outcome, PassRecord, WalkAnswer, WalkRecord};
 use std::alloc::Global;
 
-/// The pass of an attempt, if one ran. Our own.
+/// The pass of an attempt, if one ran.
 pub fn pass_of(outcome: &Outcome) -> Option<PassRecord>
     ensures { result ≡ pass_of outcome.now }
 {
@@ -30,14 +31,14 @@ pub fn pass_of(outcome: &Outcome) -> Option<PassRecord>
     }
 }
 
-/// Whether a walk ended for want of memory. Our own.
+/// Whether a walk ended for want of memory.
 pub fn is_cut(answer: WalkAnswer) -> bool
     ensures { result ≡ is_cut answer }
 {
     matches!(answer, WalkAnswer::Memory { .. })
 }
 
-/// How many objects the answer of a walk says were freed. Our own.
+/// How many objects the answer of a walk says were freed.
 pub fn freed_told(answer: WalkAnswer) -> u64
     ensures { result ≡ freed_told answer }
 {
@@ -48,7 +49,7 @@ pub fn freed_told(answer: WalkAnswer) -> u64
     }
 }
 
-/// Whether a walk that found its group offline has no map and no attempt. Our own.
+/// Whether a walk that found its group offline has no map and no attempt.
 pub fn is_bare_offline(walk: &WalkRecord) -> bool
     ensures { Decides result (IsBareOffline walk.now) }
 {
@@ -105,7 +106,7 @@ fn is_whole(alloc: Global, ids: u16, walk: &WalkRecord) -> Result<bool, Memory>
 }
 
 /// Whether a walk below the root, if it went through, has a map for each unit, and an attempt for
-/// each set bit. Our own.
+/// each set bit.
 pub fn is_mapped(alloc: Global, ids: u16, walk: &WalkRecord) -> Result<bool, Memory>
     ensures { IfOk result (λ b. Decides b (IsWalkMapped ids walk.now)) }
 {
@@ -121,7 +122,7 @@ pub fn is_mapped(alloc: Global, ids: u16, walk: &WalkRecord) -> Result<bool, Mem
     }
 }
 
-/// Whether a walk of the root has no map, and unless it was cut an attempt for each id. Our own.
+/// Whether a walk of the root has no map, and unless it was cut an attempt for each id.
 pub fn is_of_root(ids: u16, walk: &WalkRecord) -> bool
     ensures { Decides result (IsOfRoot ids walk.now) }
 {
@@ -177,7 +178,7 @@ fn is_begun(alloc: Global, script: &Script, walk: &WalkRecord) -> Result<bool, M
     Ok(well)
 }
 
-/// Whether a walk that was cut has the first of the maps and attempts that it was to make. Our own.
+/// Whether a walk that was cut has the first of the maps and attempts that it was to make.
 pub fn is_cut_begun(alloc: Global, script: &Script, walk: &WalkRecord) -> Result<bool, Memory>
     ensures { IfOk result (λ b. Decides b (IsCutBegun script.now walk.now)) }
 {
@@ -202,7 +203,7 @@ fn is_room_at(walk: &WalkRecord, k: usize, attempt: &Attempt) -> bool
     is_cut(walk.answer()) && k < attempts && attempts - k == 1
 }
 
-/// Whether each pass that ended for want of room is the last of a walk that was cut. Our own.
+/// Whether each pass that ended for want of room is the last of a walk that was cut.
 pub fn is_room_last(walk: &WalkRecord) -> bool
     ensures { Decides result (IsRoomLast walk.now) }
 {
@@ -231,7 +232,7 @@ fn is_placed(group: u16, outcome: &Outcome) -> bool
     }
 }
 
-/// Whether each outcome may stand in a walk of this group. Our own.
+/// Whether each outcome may stand in a walk of this group.
 pub fn are_placed(group: u16, attempts: &[Attempt]) -> bool
     ensures { Decides result (EachItem (λ a. IsPlaced group a.outcome) attempts.now) }
 {
@@ -268,7 +269,7 @@ fn frees(attempts: &[Attempt], told: u64) -> bool
     left == 0
 }
 
-/// Whether a walk's answer says of how many objects it freed what its passes freed. Our own.
+/// Whether a walk's answer says of how many objects it freed what its passes freed.
 pub fn is_freed_told(walk: &WalkRecord) -> bool
     ensures { Decides result (freed_told walk.now.answer ≡ freed_of walk.now) }
 {

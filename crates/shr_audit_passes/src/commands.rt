@@ -1,3 +1,4 @@
+// SPDX-License-Identifier: GPL-2.0-only
 //! The walks of a command.
 
 ghost use Rattle.std.specs.Prelude.{◌≡◌, ◌==◌, ◌<◌, ◌≤◌, ℕ, filter, length, slice_get, Some, option_copied};
@@ -43,7 +44,7 @@ fn behind_of(walks: &[WalkRecord], command: usize) -> usize
 }
 
 /// The walks of a command, of the walks of its worker in the order of their commands, as a well
-/// formed report has them. Our own.
+/// formed report has them.
 pub fn walks_of(walks: &[WalkRecord], command: usize) -> &[WalkRecord]
     requires { StandByCommand walks.now }
     ensures { result.now ≡ filter (λ (w : WalkRecord). w.by.command == command) walks.now }
@@ -53,7 +54,7 @@ pub fn walks_of(walks: &[WalkRecord], command: usize) -> &[WalkRecord]
     if low < high { &walks[low..high] } else { &[] }
 }
 
-/// Whether a command with these walks is answered so; a `balance` walks so many groups. Our own.
+/// Whether a command with these walks is answered so; a `balance` walks so many groups.
 pub fn is_told_by(groups: usize, command: &Command, reply: &Reply, walks: &[WalkRecord]) -> bool
     ensures { (s : Script) → groups ≡ length (preorder_of (parents_of s) 0)
         → Decides result (IsToldBy s walks.now command.now reply.now) }
@@ -113,7 +114,7 @@ fn is_part_told(script: &Script, groups: usize, worker: usize, part: &WorkerPart
 }
 
 /// Whether each `shrink` and `balance` is answered as its walks say, in a well formed report.
-/// `groups` is how many groups a `balance` walks. Our own.
+/// `groups` is how many groups a `balance` walks.
 pub fn are_told(script: &Script, report: &Report, groups: usize) -> bool
     requires well { IsWellFormed report.now }
     requires many { groups ≡ length (preorder_of (parents_of script.now) 0) }

@@ -1,3 +1,4 @@
+// SPDX-License-Identifier: GPL-2.0-only
 //! The counts of the attempts of a walk.
 
 ghost use Rattle.std.specs.Prelude.{◌≡◌};
@@ -83,7 +84,7 @@ fn are_all_right(case: &Case, report: &Report, walk: &WalkRecord) -> bool
 }
 
 /// Whether each count of a walk is right: that many objects were there after that many entries. The
-/// case is that of the report. Our own.
+/// case is that of the report.
 pub fn are_counts(case: &Case, report: &Report, walk: &WalkRecord) -> bool
     requires { IsReplayOf report.now case.now }
     ensures { (s : Script) → IsCaseOf s report.now case.now

@@ -1,3 +1,4 @@
+// SPDX-License-Identifier: GPL-2.0-only
 //! The held attempts of a walk, against the declarations of their caches.
 
 ghost use Rattle.std.specs.Prelude.{◌≡◌};
@@ -69,7 +70,7 @@ fn are_kinds_at(
 }
 
 /// Whether each held attempt of a walk has an outcome of its cache. What each lookup met is known
-/// (`Met`). Our own.
+/// (`Met`).
 pub fn are_kinds(script: &Script, report: &Report, met: &Met, walk: &WalkRecord) -> bool
     requires { IsMetIn report.now.pool.items met.now }
     ensures { Decides result (EachItem (IsKindAt script.now report.now walk.now.priority)
@@ -80,7 +81,7 @@ pub fn are_kinds(script: &Script, report: &Report, met: &Met, walk: &WalkRecord)
 }
 
 /// Whether each pass of a walk stopped if and only if an ask was due and the walk can't scan its
-/// cache. What each lookup met is known (`Met`). Our own.
+/// cache. What each lookup met is known (`Met`).
 pub fn are_stops(script: &Script, report: &Report, met: &Met, walk: &WalkRecord) -> bool
     requires { IsMetIn report.now.pool.items met.now }
     ensures { Decides result (EachItem (IsStopAt script.now report.now walk.now)

@@ -1,4 +1,5 @@
-//! Whether a walk of a report is lawful. Our own.
+// SPDX-License-Identifier: GPL-2.0-only
+//! Whether a walk of a report is lawful.
 #![tactic(auto)]
 
 pub mod alone;

@@ -1,3 +1,4 @@
+// SPDX-License-Identifier: GPL-2.0-only
 //! The caches that attempts met.
 
 ghost use Rattle.std.specs.Prelude.{◌≡◌, option_copied};
@@ -13,7 +14,7 @@ use shr_base::scripts::{CacheDecl, Script};
 use shr_base::walks::Outcome;
 use shr_laws::report::Report;
 
-/// The number of an attempt's lookup, if there was one. Our own.
+/// The number of an attempt's lookup, if there was one.
 pub fn number_of(outcome: &Outcome) -> Option<u32>
     ensures { result ≡ number_of outcome.now }
 {
@@ -29,7 +30,7 @@ pub fn number_of(outcome: &Outcome) -> Option<u32>
     }
 }
 
-/// Whether an attempt's lookup met a cache and held it. Our own.
+/// Whether an attempt's lookup met a cache and held it.
 pub fn is_held(outcome: &Outcome) -> bool
     ensures { result ≡ is_held outcome.now }
 {
@@ -56,7 +57,7 @@ fn decl_met(report: &Report, met: &Met, id: u16, number: u32) -> Option<u8>
     met.decl(id, number)
 }
 
-/// The cache in whose registration the lookup of an attempt lies. Our own.
+/// The cache in whose registration the lookup of an attempt lies.
 pub fn cache_of<'a>(
     script: &'a Script,
     report: &Report,

@@ -1,3 +1,4 @@
+// SPDX-License-Identifier: GPL-2.0-only
 //! The passes of a walk, against the declarations of their caches.
 
 ghost use Rattle.std.specs.Prelude.{◌≡◌, ◌<◌, ◌≤◌, ◌/◌, ◌^◌, ◌-◌, length, sum, take};
@@ -9,7 +10,7 @@ use shr_arith::formulas::next_deferred;
 use shr_base::scripts::CacheDecl;
 use shr_base::walks::{Ending, Outcome, PassRecord, WalkRecord};
 
-/// The asks that are due in a pass: how many, and the size of each. Our own.
+/// The asks that are due in a pass: how many, and the size of each.
 #[derive(Clone, Copy, Debug, PartialEq, Eq)]
 pub struct Due {
     pub count: u64,
@@ -76,7 +77,7 @@ fn due_of(batch: u64, freeable: u32, total: u64) -> Due
     }
 }
 
-/// The asks that are due in a pass of a cache, or of a pool, with these seeks and this batch. Our own.
+/// The asks that are due in a pass of a cache, or of a pool, with these seeks and this batch.
 pub fn asks_due(priority: u8, seeks: u32, batch: u32, pass: &PassRecord) -> Due
     ensures count { result.count ≡ due (batch_of batch) pass.now.len
         (total_of pass.now.len pass.now.nr priority seeks) }
@@ -101,7 +102,7 @@ fn are_made(asks: u32, ending: Ending, due: u64) -> bool
 }
 
 /// Whether the record of a pass follows the arithmetic, of a cache or a pool with these seeks and
-/// this batch. Our own.
+/// this batch.
 pub fn follows(priority: u8, seeks: u32, batch: u32, pass: &PassRecord) -> bool
     ensures { Decides result (FollowsArithmetic priority seeks batch pass.now) }
 {
@@ -137,7 +138,7 @@ fn is_pass_of(priority: u8, decl: &CacheDecl, pass: &PassRecord) -> bool
     follows
 }
 
-/// Whether a held attempt has an outcome of its cache. Our own.
+/// Whether a held attempt has an outcome of its cache.
 pub fn is_outcome_of(priority: u8, decl: &CacheDecl, outcome: &Outcome) -> bool
     ensures { Decides result (IsOutcomeOf priority decl.now outcome.now) }
 {
@@ -154,7 +155,7 @@ pub fn is_outcome_of(priority: u8, decl: &CacheDecl, outcome: &Outcome) -> bool
 }
 
 /// Whether a pass ended by Stop if and only if an ask was due and this walk can't scan its cache,
-/// and then made none. Our own.
+/// and then made none.
 pub fn is_stopped(walk: &WalkRecord, decl: &CacheDecl, pass: &PassRecord) -> bool
     ensures { Decides result (IsStopped walk.now decl.now pass.now) }
 {

@@ -1,3 +1,4 @@
+// SPDX-License-Identifier: GPL-2.0-only
 //! The Scan entries of a pass.
 
 ghost use Rattle.std.specs.Prelude.{◌≡◌, ◌≤◌, map, sum_by};
@@ -13,7 +14,7 @@ use shr_base::places::Place;
 use shr_base::scripts::CacheDecl;
 use shr_base::walks::PassRecord;
 
-/// A Scan entry, with the place and the number where it stands. Our own.
+/// A Scan entry, with the place and the number where it stands.
 #[derive(Clone, Copy, Debug, PartialEq, Eq)]
 pub struct ScanSeen {
     pub worker: u16,
@@ -59,7 +60,7 @@ fn scans_free(scans: &[ScanSeen], told: u64) -> bool
 }
 
 /// Whether these are the Scan entries of a pass: the first of its asks, those that found the list
-/// closed left out. Our own.
+/// closed left out.
 pub fn are_scans_of(priority: u8, decl: &CacheDecl, pass: &PassRecord, scans: &[ScanSeen]) -> bool
     ensures { Decides result (AreScansOf priority decl.now pass.now (map made_of_scan scans.now)) }
 {

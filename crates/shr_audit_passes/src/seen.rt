@@ -1,3 +1,4 @@
+// SPDX-License-Identifier: GPL-2.0-only
 //! The units and ids that a walk saw and tried.
 
 ghost use Rattle.std.specs.Prelude.{◌≡◌, ◌+◌, ◌<◌, ◌/◌, ◌++◌, ◌∷◌, [], filter, flat_map, map, OnOk, IfOk};
@@ -33,7 +34,7 @@ fn push_ids(ids: &mut Vec<u16>, map: MapSeen) -> Result<(), Memory>
     Ok(())
 }
 
-/// The ids of the set bits of these words, in order. Our own.
+/// The ids of the set bits of these words, in order.
 pub fn ids_seen(alloc: Global, maps: &[MapSeen]) -> Result<Vec<u16>, Memory>
     ensures { IfOk result (λ ids. ids.items
         ≡ flat_map (λ (m : MapSeen). ids_in m.unit m.bits) maps.now) }
@@ -45,7 +46,7 @@ pub fn ids_seen(alloc: Global, maps: &[MapSeen]) -> Result<Vec<u16>, Memory>
     Ok(ids)
 }
 
-/// Whether these attempts are at the first of these ids, in order. Our own.
+/// Whether these attempts are at the first of these ids, in order.
 pub fn tries_begin(attempts: &[Attempt], ids: &[u16]) -> bool
     ensures { Decides result (IsPrefixOf (map (λ (a : Attempt). a.id) attempts.now) ids.now) }
 {
@@ -61,7 +62,7 @@ pub fn tries_begin(attempts: &[Attempt], ids: &[u16]) -> bool
     true
 }
 
-/// Whether these attempts are at the first of so many ids from 0 up. Our own.
+/// Whether these attempts are at the first of so many ids from 0 up.
 pub fn tries_rise(attempts: &[Attempt], ids: u16) -> bool
     ensures { Decides result (IsPrefixOf (map (λ (a : Attempt). a.id) attempts.now)
         (range_with_len 0 ids)) }
@@ -78,7 +79,7 @@ pub fn tries_rise(attempts: &[Attempt], ids: u16) -> bool
     true
 }
 
-/// Whether these words are of the first units of so many ids. Our own.
+/// Whether these words are of the first units of so many ids.
 pub fn units_rise(maps: &[MapSeen], ids: u16) -> bool
     ensures { Decides result (IsPrefixOf (map (λ (m : MapSeen). m.unit) maps.now) (units_of ids)) }
 {

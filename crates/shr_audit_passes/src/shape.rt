@@ -1,3 +1,4 @@
+// SPDX-License-Identifier: GPL-2.0-only
 //! What the walks of a report show by themselves.
 
 ghost use Rattle.std.specs.Prelude.{◌≡◌, IfOk};
@@ -15,7 +16,7 @@ use shr_base::walks::WalkRecord;
 use shr_laws::report::Report;
 use std::alloc::Global;
 
-/// Whether a walk shows by itself what a lawful one shows. Our own.
+/// Whether a walk shows by itself what a lawful one shows.
 pub fn is_shaped(alloc: Global, script: &Script, walk: &WalkRecord) -> Result<bool, Memory>
     ensures { IfOk result (λ b. Decides b (IsShaped script.now walk.now)) }
 {
@@ -53,7 +54,7 @@ fn are_shaped(alloc: Global, script: &Script, walks: &[WalkRecord]) -> Result<bo
     Ok(true)
 }
 
-/// Whether each walk of a report shows by itself what a lawful one shows. Our own.
+/// Whether each walk of a report shows by itself what a lawful one shows.
 pub fn walks_are_shaped(alloc: Global, script: &Script, report: &Report) -> Result<bool, Memory>
     ensures { IfOk result (λ b. Decides b (EachWalk report.now
         (λ worker n w. IsShaped script.now w))) }

@@ -1,3 +1,4 @@
+// SPDX-License-Identifier: GPL-2.0-only
 //! What a command on walks is answered, against the walks that it made.
 
 ghost use Rattle.std.specs.Prelude.{◌≡◌, sum_by};
@@ -23,7 +24,7 @@ fn is_reply_of(answer: WalkAnswer, reply: &Reply) -> bool
     }
 }
 
-/// Whether a `shrink` with these walks is answered so. Our own.
+/// Whether a `shrink` with these walks is answered so.
 pub fn is_shrink_told(walks: &[WalkRecord], reply: &Reply) -> bool
     ensures { Decides result (reply.now ≡ shrink_reply walks.now) }
 {
@@ -56,7 +57,7 @@ fn walks_tell(walks: &[WalkRecord], told: u64) -> bool
     left == 0
 }
 
-/// Whether a `balance` over so many groups, with these walks, is answered so. Our own.
+/// Whether a `balance` over so many groups, with these walks, is answered so.
 pub fn is_balance_told(groups: usize, walks: &[WalkRecord], reply: &Reply) -> bool
     ensures { Decides result (reply.now ≡ balance_reply groups walks.now) }
 {

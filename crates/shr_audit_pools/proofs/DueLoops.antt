@@ -1,3 +1,4 @@
+-- SPDX-License-Identifier: GPL-2.0-only
 -- Loops over what a report prints: what is so of each item, and of each walk of the pools.
 use Rattle.shr_audit_pools.proofs.DueCommon.{◌≡◌, ℕ, ◌<◌, ◌≤◌, Bool, true, false, List, length, get_or, Option, Some, refl, sym, ap, subst, ◌∙◌, slice_get, Decides, slice_get-get_or, WorkerPart, PlainWalk, Report, plain_in, all_at, clash, here_at, None, EachPlain}
 

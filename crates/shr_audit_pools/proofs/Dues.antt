@@ -1,3 +1,4 @@
+-- SPDX-License-Identifier: GPL-2.0-only
 -- The walks of the pools of commands, gone through worker by worker.
 use Rattle.shr_audit_pools.proofs.DueCommon.{◌≡◌, ℕ, ◌<◌, ◌≤◌, Bool, true, false, List, length, get_or, Option, Some, refl, sym, ap, subst, ◌∙◌, arith, nat_lt, nat_le, slice_get, Decides, nat_tests, slice_get-get_or, slice_get_within, WorkerPart, Answered, PlainWalk, Report, commands_of, plain_in, EachItem, all_at, clash, HasDue, IsPartDue, plain_walks_with, here_at, suc, cond, [], ◌∷◌, map, ◌==◌, ◌&&◌, filter, IsNonDecreasingBy-from_all_adjacent, serial_of, EachAnswer, PlainJob, plain_by, plain_due, plain_job_of, IsWorkerCommand, below_of, PoolWalksByCommand, same_test}
 use Rattle.std.specs.List.Sorted.{IsPartitionedBy, IsNonDecreasingBy}

@@ -1,3 +1,4 @@
+-- SPDX-License-Identifier: GPL-2.0-only
 -- Journals of pools, entry by entry, and journals that stand next to one another.
 use Rattle.shr_audit_pools.proofs.Common.{◌≡◌, ◌≢◌, ◌⊎◌, inl, inr, ℕ, zero, suc, ◌+◌, ◌-◌, ◌<◌, Bool, false, List, [], ◌∷◌, ◌++◌, length, get_or, take, drop, Some, refl, sym, ap, subst, ◌∙◌, arith, slice_get, Decides, cases_order, drop_more, take-append-drop, take_more, slice_get_within, slice_get-get_or, UnitsEnd, PlainEntry, Place, Script, IsPlainJournal, free_of, Report, AreUnitsRight, IsPlaceUpTo, IsWellFormed, units_place, EachItem, each_in, lists_of, AreJournalsRight, append_assoc, fold-append, IsPlainEntry, free_after, IsPlaceBefore, Adjacent, all_of, clash, AreApart}
 use Rattle.shr_model.specs.Follow.{Follow}

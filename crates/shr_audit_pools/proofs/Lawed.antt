@@ -1,3 +1,4 @@
+-- SPDX-License-Identifier: GPL-2.0-only
 -- The fields of the law on pools, put together.
 use Rattle.shr_audit_pools.proofs.Common.{◌≡◌, ◌≢◌, ◌⊎◌, inl, inr, ℕ, zero, suc, ◌+◌, ◌-◌, ◌<◌, ◌≤◌, Bool, true, false, cond, List, [], ◌∷◌, ◌++◌, length, get_or, take, drop, map, Option, Some, None, refl, sym, ap, subst, ◌∙◌, arith, flat_map, option_and_then, option_map, option_to_list, slice_get, Decides, AllByRecursion, drop_more, get_or_append_left, length-append, take-append-drop, take_all, take_more, IsNonDecreasingBy-from_all_adjacent, all_adjacent_from_non_decreasing, flat_map-append, get_or-append_seam, get_or_from_slice_get, same_Some, slice_get_within, PlaceAmount, UnitsEnd, WorkerPart, At, Place, Answered, Reply, Script, PlainAnswer, PlainTry, PlainWalk, is_place_same, is_place_itself, is_place, Report, HasNumbers, at, AreUnitsRight, HasTries, IsPlainLawful, IsPoolReply, plain_versions, version_in, EachUnits, units_place_at, pool_place, units_cited, IsPlaceUpTo, IsPoolAmountWell, IsWellFormed, units_place, each_in, fails, lists_of, IsEntryRight, AreJournalsRight, AreUpTo, IsPartVersed, cited_or_next, cited_at_reply, ArePoolWordsRight, units_key, IsNonDecreasingBy-push, AreUnitsNumbered, answers_in, reply_at, serial_of, EachAnswer, ArePoolsLawful, EachPlain, plain_by, plain_due, plain_in, plain_job_of, plain_of, units_cited_at, AreNotFalling, AreAllRising, AreAllVersed, HaveFewTries, AreKept}
 use Rattle.shr_base.specs.declared.replies.Reply.TheVariants.{Released, Full, Grabbed, Bare}

@@ -1,3 +1,4 @@
+-- SPDX-License-Identifier: GPL-2.0-only
 -- Loops over what a report prints: what is so of each answer, and of each entry of a pool's journal.
 use Rattle.shr_audit_pools.proofs.Common.{◌≡◌, inl, inr, ℕ, ◌+◌, ◌<◌, ◌≤◌, Bool, List, get_or, Option, Some, None, refl, ap, subst, ◌∙◌, arith, slice_get, Decides, cases_Bool, IsNonDecreasingBy-from_all_adjacent, get_or_from_slice_get, slice_get-get_or, slice_get_within, UnitsEnd, PlainEntry, Place, Answered, Script, is_place_same, is_place_itself, is_place, Report, commands_of, EachUnits, units_entries, units_place, below_of, AreEntriesRight, HasRight, IsEntryRight, AreShelved, journal_printed_at, units_key, none_some}
 use Rattle.shr_base.specs.declared.scripts.Command.{Command}

@@ -1,3 +1,4 @@
+-- SPDX-License-Identifier: GPL-2.0-only
 -- What the passes of pools moved, try by try, and the deferred words that they leave.
 use Rattle.shr_audit_pools.proofs.Common.{◌≡◌, ◌⊎◌, inl, inr, ℕ, zero, suc, ◌+◌, ◌<◌, ◌≤◌, Bool, true, false, cond, List, [], ◌∷◌, length, get_or, take, Option, Some, None, refl, sym, ap, subst, ◌∙◌, arith, ◌==◌, ◌&&◌, filter_map, flat_map, option_and_then, slice_get, sum_by, Decides, AllByRecursion, cons_option, enumerate_from, nat_tests, take_all, filter_map-append, sum_by-cons, PlaceAmount, WorkerPart, Place, PoolDecl, Script, PassRecord, PlainTry, PlainWalk, is_place, Report, HasNumbers, home_in, pool_place, IsPoolAmountWell, IsWellFormed, GainsAtEach, ArePoolWordsRight, moved_at, moved_by_worker, pass_next, nr_of, PoolPlace, named_place, sum_item, ◌↔◌, Decides-like, sum_by-append, sum_by_more, IsPartNumbered, IsPlainNumbered, pool_printed_at, pass_at, pass_in, pool_passes, IsAmountWell, IsNarrow, deferred_key, moved_in_try, said_of_pass}
 use Rattle.std.proofs.lemmas.List.FromFn.{get_or-enumerate_from, length-enumerate_from}

@@ -1,3 +1,4 @@
+-- SPDX-License-Identifier: GPL-2.0-only
 -- The Reclaims of a pass, each by itself and all together.
 use Rattle.shr_audit_pools.proofs.Common.{◌≡◌, ℕ, zero, suc, ◌+◌, ◌≤◌, Bool, false, List, [], ◌∷◌, length, take, map, Some, refl, sym, ap, subst, ◌∙◌, sum_by, slice_get, Decides, AllByRecursion, sum_by-cons, PoolDecl, PassRecord, ReclaimMade, EachItem, fails, Reclaimed, IsReclaimAfter, reclaim_freed, made_of_reclaim, replicate, take-replicate, AreReclaimsOf}
 use Rattle.shr_model.specs.Pass.{FollowsArithmetic, due, due_asks, ask_size, batch_of, total_of}

@@ -1,3 +1,4 @@
+-- SPDX-License-Identifier: GPL-2.0-only
 -- The least numbers at places, reply by reply.
 use Rattle.shr_audit_pools.proofs.Common.{◌≡◌, ◌⊎◌, inl, inr, ℕ, ◌+◌, ◌<◌, ◌≤◌, Bool, true, List, Option, Some, None, refl, sym, ap, ◌∙◌, arith, option_and_then, option_map, slice_get, Decides, cases_lt, same_Some, At, Place, Answered, Reply, at, units_place_at, units_cited, AreCitedBelow, AreLows, IsAbove, HasNoLows, Lows, NotesReplies, RaisesLow, cited_or_next, cited_at_reply, pool_key, cite_at, IsHigh, IsSmall, NotesUnitsReply, kept_as, low_at}
 use Rattle.shr_audit_pools.specs.declared.cites.Cite.{Cite}

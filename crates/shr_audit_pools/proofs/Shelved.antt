@@ -1,3 +1,4 @@
+-- SPDX-License-Identifier: GPL-2.0-only
 -- Journals of pools in the order of their places.
 use Rattle.shr_audit_pools.proofs.Common.{◌≡◌, ◌≢◌, ◌⊎◌, inl, inr, ℕ, zero, suc, ◌+◌, ◌-◌, ◌<◌, ◌≤◌, Bool, true, false, cond, List, [], ◌∷◌, length, get_or, Option, Some, None, refl, sym, ap, ◌∙◌, arith, slice_get, IsPartitionedBy, cases_Bool, cases_order, IsNonDecreasingBy-from_all_adjacent, IsPartitionedBy-ltb, same_Some, slice_get-get_or, slice_get_within, nat_lt, UnitsEnd, Place, is_place_same, is_place_itself, is_place, units_place, below_of, PoolPlace, AreShelved, pool_key, named_place, journal_printed_at, units_key}
 

@@ -1,3 +1,4 @@
+-- SPDX-License-Identifier: GPL-2.0-only
 -- What is read of the journal of a pool.
 use Rattle.shr_audit_pools.proofs.Common.{◌≡◌, ◌⊎◌, inl, inr, ℕ, zero, suc, ◌+◌, ◌<◌, ◌≤◌, Bool, true, false, cond, List, [], ◌∷◌, ◌++◌, length, map, get_or, take, Option, Some, None, refl, sym, ap, subst, ◌∙◌, arith, ◌==◌, ◌&&◌, filter_map, nat_lt, nat_le, option_to_list, slice_get, cons_option, enumerate_from, IsPartitionedBy, cases_lt, nat_tests, get_or_append_left, length-append, take_all, take_more, filter_map-append, IsNonDecreasingBy-from_all_adjacent, IsPartitionedBy-ltb, all_adjacent_from_non_decreasing, same_Some, slice_get-get_or, slice_get_within, get_or-append_seam, UnitsEnd, PlainEntry, Place, free_of, Report, ReclaimMade, units_entries, units_journal, EachItem, below_of, Reclaimed, journal_printed_at, AreStocksOf, all_reclaims, made_of_reclaim, ◌^◌, filter, IsNonDecreasingBy, IsStableByKey, ties, length-take, IsPartitionedBy-leb, slice_get_cases, IsPlainEntryNumbered, reclaim_by, adjacent_in, AreFree, AreReclaims, IsStockOf, StandByWalk, reclaimed_of, walk_key, reclaims_with_key, get_last}
 use Rattle.std.specs.Ordering.{nat_cmp, is_lt}

@@ -1,3 +1,4 @@
+-- SPDX-License-Identifier: GPL-2.0-only
 -- Walks of the pools, try by try.
 use Rattle.shr_audit_pools.proofs.Common.{◌≡◌, ◌⊎◌, inl, inr, ℕ, ◌+◌, ◌<◌, ◌≤◌, Bool, true, false, List, length, get_or, Some, refl, sym, ap, subst, ◌∙◌, arith, slice_get, sum_by, Decides, cases_lt, same_Some, slice_get-get_or, slice_get_within, Place, PoolDecl, Script, PlainAnswer, PlainTry, PlainWalk, Report, HasTries, IsPlainLawful, freed_in_try, pool_place, fails, PoolPlace, IsTryRight, named_place, IsKind, IsPlainCount, plain_told, EachTry, IsRunRight}
 

@@ -1,3 +1,4 @@
+-- SPDX-License-Identifier: GPL-2.0-only
 -- The least numbers at places, walk by walk.
 use Rattle.shr_audit_pools.proofs.Common.{◌≡◌, ◌⊎◌, inl, inr, ℕ, ◌+◌, ◌<◌, ◌≤◌, Bool, true, false, cond, List, [], ◌∷◌, ◌++◌, length, get_or, take, Option, Some, None, refl, sym, ap, subst, ◌∙◌, arith, ◌==◌, ◌&&◌, flat_map, option_map, option_to_list, slice_get, Decides, AllByRecursion, cases_lt, flat_map-append, take_more, same_Some, slice_get-get_or, slice_get_within, WorkerPart, Place, Answered, PoolDecl, Script, PlainTry, PlainWalk, is_place, at, plain_versions, version_in, home_in, units_place_at, pool_place, PoolPlace, AreCitedBelow, AreLowsOf, AreUpTo, HasNoLows, IsPartVersed, IsVersed, Lows, NotesReplies, NotesTries, RaisesLow, cited_at_reply, pool_key, named_place, item_fails, items_whole, here_at, eq-eqb, eqb-true, append-nil, IsWalkHigh}
 use Rattle.shr_audit_pools.specs.Due.{PoolWalksByCommand}

@@ -1,3 +1,4 @@
+-- SPDX-License-Identifier: GPL-2.0-only
 -- The walks of the pools of a command, in the part of its worker. No public clause cites this.
 use Rattle.std.specs.Prelude.{◌≡◌, ◌==◌, ℕ, ◌<◌, ◌≤◌, List, filter, length, map, slice_get, Some}
 use Rattle.std.specs.Option.{IsSomeAnd}

@@ -1,3 +1,4 @@
+-- SPDX-License-Identifier: GPL-2.0-only
 -- The law on pools, in parts. No public clause cites this.
 use Rattle.std.specs.Prelude.{◌≡◌, ℕ, ◌<◌, flat_map, map, Some}
 use Rattle.std.specs.List.{AllByRecursion}

@@ -1,3 +1,4 @@
+-- SPDX-License-Identifier: GPL-2.0-only
 -- The least number that an entry or a version may have at each place. No public clause cites this.
 use Rattle.std.specs.Prelude.{◌≡◌, ℕ, ◌<◌, ◌≤◌, ◌↔◌, nat_eq, List, flat_map, length, slice_get, take, Option, Some, None, option_and_then, option_map}
 use Rattle.std.specs.List.{AllByRecursion}

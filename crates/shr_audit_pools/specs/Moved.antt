@@ -1,3 +1,4 @@
+-- SPDX-License-Identifier: GPL-2.0-only
 -- What the passes of pools moved. No public clause cites this.
 use Rattle.std.specs.Prelude.{◌≡◌, ℕ, sum_by, cond, Option, Some, None}
 use Rattle.shr_base.specs.declared.ends.WorkerPart.{WorkerPart}

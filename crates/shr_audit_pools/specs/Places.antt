@@ -1,3 +1,4 @@
+-- SPDX-License-Identifier: GPL-2.0-only
 -- The journals of the pools by their places. No public clause cites this.
 use Rattle.std.specs.Prelude.{ℕ, ◌+◌, ◌*◌, ◌<◌, List, find, Option}
 use Rattle.shr_base.specs.declared.ends.UnitsEnd.{UnitsEnd}

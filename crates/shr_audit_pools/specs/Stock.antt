@@ -1,3 +1,4 @@
+-- SPDX-License-Identifier: GPL-2.0-only
 -- What is read once of the journal of a pool. No public clause cites this.
 use Rattle.std.specs.Prelude.{◌≡◌, ℕ, ◌+◌, ◌*◌, ◌<◌, ◌≤◌, ◌^◌, ◌==◌, List, [], length, map, filter, filter_map, take, get_or, slice_get, Option, Some, None}
 use Rattle.std.specs.List.{enumerate_from}

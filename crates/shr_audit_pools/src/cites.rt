@@ -1,3 +1,4 @@
+// SPDX-License-Identifier: GPL-2.0-only
 //! The entries of pools' journals that replies cite.
 
 ghost use Rattle.std.specs.Prelude.{◌≡◌, ◌<◌, Some, option_copied, option_map, slice_get, IfSome};
@@ -14,7 +15,7 @@ use shr_base::places::Serial;
 use shr_base::replies::Reply;
 use shr_laws::report::Report;
 
-/// An entry of the journal of a pool on a node, by its number. Our own.
+/// An entry of the journal of a pool on a node, by its number.
 #[derive(Clone, Copy, Debug, PartialEq, Eq)]
 pub struct Cite {
     pub place: PoolPlace,
@@ -22,7 +23,7 @@ pub struct Cite {
 }
 
 impl Cite {
-    /// What the two numbers of a pool on a node and that of an entry name. Our own.
+    /// What the two numbers of a pool on a node and that of an entry name.
     pub(crate) fn new(pool: u8, node: u8, entry: u32) -> Cite
         ensures pool { result.place.pool ≡ pool }
         ensures node { result.place.node ≡ node }
@@ -36,7 +37,7 @@ impl Cite {
     }
 }
 
-/// The entry that a reply cites. Our own.
+/// The entry that a reply cites.
 pub(crate) fn cited_by(reply: &Reply) -> Option<Cite>
     ensures cited { option_map cite_at result ≡ units_cited reply.now }
     ensures small { IfSome result (λ c. c.place.node < 256) }
@@ -49,7 +50,7 @@ pub(crate) fn cited_by(reply: &Reply) -> Option<Cite>
     }
 }
 
-/// The entry of a pool on a node with this number. Our own.
+/// The entry of a pool on a node with this number.
 pub(crate) fn entry_at(report: &Report, cite: Cite) -> Option<&PlainEntry>
     requires { AreKept report.now }
     ensures { option_copied result
@@ -58,7 +59,7 @@ pub(crate) fn entry_at(report: &Report, cite: Cite) -> Option<&PlainEntry>
     entries_at(report, cite.place).get(cite.entry as usize)
 }
 
-/// Whether the reply to a command cites the entry of a pool on a node with this number. Our own.
+/// Whether the reply to a command cites the entry of a pool on a node with this number.
 pub(crate) fn is_cited(report: &Report, by: Serial, place: PoolPlace, number: usize) -> bool
     ensures { Decides result (units_cited_at report.now by ≡ Some (at (named_place place) number)) }
 {

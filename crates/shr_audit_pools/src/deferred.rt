@@ -1,3 +1,4 @@
+// SPDX-License-Identifier: GPL-2.0-only
 //! The deferred words of pools.
 
 ghost use Rattle.std.specs.Prelude.{◌≡◌, ◌≤◌, cond, length, sum_by, IfOk, OnOk};
@@ -84,7 +85,6 @@ fn note_parts(script: &Script, moves: &mut Vec<Move>, parts: &[WorkerPart]) -> R
 }
 
 /// Whether each deferred word of a pool is what the passes there deferred less what they took over.
-/// Our own.
 pub(crate) fn are_words_right(
     alloc: Global,
     script: &Script,

@@ -1,3 +1,4 @@
+// SPDX-License-Identifier: GPL-2.0-only
 //! The walks of the pools that commands have.
 
 ghost use Rattle.std.specs.Prelude.{◌≡◌, ◌==◌, ℕ, ◌<◌, ◌≤◌, filter, length, map, slice_get, Some, option_map, option_to_list};
@@ -16,7 +17,7 @@ use shr_base::scripts::{Command, Script};
 use shr_base::walks::PlainWalk;
 use shr_laws::report::Report;
 
-/// What a walk of the pools is to do. Our own.
+/// What a walk of the pools is to do.
 #[derive(Clone, Copy, Debug, PartialEq, Eq)]
 pub struct Job {
     pub node: u8,
@@ -117,7 +118,7 @@ fn walks_of(walks: &[PlainWalk], command: usize) -> &[PlainWalk]
     if low < high { &walks[low..high] } else { &[] }
 }
 
-/// The commands of a worker; none past the last worker. Our own.
+/// The commands of a worker; none past the last worker.
 pub fn commands_of(script: &Script, worker: usize) -> &[Command]
     ensures { result.now ≡ commands_of script.now worker }
 {
@@ -159,7 +160,7 @@ fn is_part_due(script: &Script, worker: usize, part: &WorkerPart) -> bool
     true
 }
 
-/// Whether each command has the walks of the pools that are due to its answer, and no other. Our own.
+/// Whether each command has the walks of the pools that are due to its answer, and no other.
 pub fn are_walks_due(script: &Script, report: &Report) -> bool
     requires { IsWellFormed report.now }
     ensures { Decides result (EachAnswer script.now report.now (λ by c a.
@@ -199,7 +200,7 @@ fn are_all_due(script: &Script, report: &Report, walks: &[PlainWalk]) -> bool
     true
 }
 
-/// Whether each walk of the pools is due to a command of the script. Our own.
+/// Whether each walk of the pools is due to a command of the script.
 pub fn are_walks_of_commands(script: &Script, report: &Report) -> bool
     ensures { Decides result (EachPlain report.now (λ worker n w.
         IsDue script.now report.now w)) }

@@ -1,3 +1,4 @@
+// SPDX-License-Identifier: GPL-2.0-only
 //! The entries of pools' journals: each is cited by the reply to its command, or is of a pass of the
 //! walk that it names.
 
@@ -89,7 +90,7 @@ fn are_entries_right(script: &Script, report: &Report, units: &UnitsEnd) -> bool
 }
 
 /// Whether each entry of each journal of a pool is cited by the reply to its command, or is of a pass
-/// of the walk that it names. Our own.
+/// of the walk that it names.
 pub(crate) fn are_all_entries_right(script: &Script, report: &Report) -> bool
     requires { AreKept report.now }
     ensures { Decides result (EachUnits report.now (IsEntryRight script.now report.now)) }

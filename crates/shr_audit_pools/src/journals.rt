@@ -1,3 +1,4 @@
+// SPDX-License-Identifier: GPL-2.0-only
 //! The journals of the pools.
 
 ghost use Rattle.std.specs.Prelude.{◌≡◌, ◌≢◌, ◌≤◌, List, IfSome, IfNone, MatchOption};
@@ -15,7 +16,6 @@ use shr_base::scripts::Script;
 use shr_laws::report::Report;
 
 /// How many units are free after an entry, if it has the outcome that so many before it leave it.
-/// Our own.
 pub(crate) fn free_after(free: u32, entry: &PlainEntry) -> Option<u32>
     requires { free ≤ 20000 }
     ensures few { IfSome result (λ next. next ≤ 20000) }
@@ -121,7 +121,7 @@ fn are_all_apart(ends: &[UnitsEnd]) -> bool
 }
 
 /// Whether each journal of a pool is printed once, is of a pool at its home, has the outcomes that
-/// follow from those before, and leaves the free units that are printed. Our own.
+/// follow from those before, and leaves the free units that are printed.
 pub fn are_journals_right(script: &Script, report: &Report) -> bool
     requires { IsWellFormed report.now }
     ensures { Decides result (AreJournalsRight script.now report.now) }

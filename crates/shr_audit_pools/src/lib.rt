@@ -1,6 +1,5 @@
-//! Whether what a report says of pools of units is lawful. Our own.
-//!
-//! Which walks of the pools are due to the commands of a report. Our own.
+// SPDX-License-Identifier: GPL-2.0-only
+//! Whether what a report says of pools of units is lawful, and which of their walks its commands owe.
 #![tactic(auto)]
 
 mod cites;

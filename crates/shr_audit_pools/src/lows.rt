@@ -1,3 +1,4 @@
+// SPDX-License-Identifier: GPL-2.0-only
 //! The least number that an entry or a version may have at each place.
 
 ghost use Rattle.std.specs.Prelude.{◌≡◌, OnOk};
@@ -9,14 +10,14 @@ use shr_base::memory::Memory;
 use std::alloc::Global;
 use std::collections::HashMap;
 
-/// A table that keeps none. Our own.
+/// A table that keeps none.
 pub(crate) fn no_lows(alloc: Global) -> HashMap<u64, u64>
     ensures { HasNoLows result }
 {
     HashMap::new(alloc)
 }
 
-/// The least number at a place. Our own.
+/// The least number at a place.
 pub(crate) fn low_at(lows: &HashMap<u64, u64>, place: PoolPlace) -> u64
     ensures { result ≡ low_at lows.now (pool_key place.pool place.node) }
 {
@@ -27,7 +28,7 @@ pub(crate) fn low_at(lows: &HashMap<u64, u64>, place: PoolPlace) -> u64
     }
 }
 
-/// Raises it, if it is below `to`. Our own.
+/// Raises it, if it is below `to`.
 pub(crate) fn raise(lows: &mut HashMap<u64, u64>, place: PoolPlace, to: u64) -> Result<(), Memory>
     ensures { OnOk result (RaisesLow (pool_key place.pool place.node) to lows.old lows.new) }
 {

@@ -1,3 +1,4 @@
+// SPDX-License-Identifier: GPL-2.0-only
 //! The passes of pools, with their Reclaim entries.
 
 ghost use Rattle.std.specs.Prelude.{◌≡◌, ℕ, length, map, sum_by};
@@ -80,7 +81,7 @@ fn is_plain_ending(entries: usize, ending: Ending) -> bool
 }
 
 /// Whether a pass of a pool, at a place with so many entries, follows the arithmetic and has these
-/// Reclaims. Our own.
+/// Reclaims.
 pub(crate) fn is_plain_pass(
     entries: usize,
     decl: &PoolDecl,

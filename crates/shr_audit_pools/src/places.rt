@@ -1,3 +1,4 @@
+// SPDX-License-Identifier: GPL-2.0-only
 //! The journals of the pools by their places.
 
 ghost use Rattle.std.specs.Prelude.{◌≡◌, ℕ, ◌<◌, ◌≤◌, length, slice_get, Some, None, IfSome, IfNone};
@@ -11,14 +12,14 @@ use shr_base::journals::PlainEntry;
 use shr_base::scripts::Script;
 use shr_laws::report::Report;
 
-/// A pool on a node. Our own.
+/// A pool on a node.
 #[derive(Clone, Copy, Debug, PartialEq, Eq)]
 pub struct PoolPlace {
     pub pool: u8,
     pub node: u8,
 }
 
-/// A pool on a node by one number. Our own.
+/// A pool on a node by one number.
 pub(crate) fn key_of(place: PoolPlace) -> usize
     ensures key { result ≡ pool_key place.pool place.node }
     ensures node { place.node < 256 }
@@ -44,7 +45,7 @@ fn index_from(ends: &[UnitsEnd], key: usize) -> usize
     ends.partition_point(|units| units_key(units) < key)
 }
 
-/// The index of the journal of a pool on a node. Our own.
+/// The index of the journal of a pool on a node.
 pub(crate) fn index_of(ends: &[UnitsEnd], place: PoolPlace) -> Option<usize>
     requires { AreShelved ends.now }
     ensures within { IfSome result (λ k. k < length ends.now) }
@@ -64,7 +65,7 @@ pub(crate) fn index_of(ends: &[UnitsEnd], place: PoolPlace) -> Option<usize>
     Some(k)
 }
 
-/// The journal of a pool on a node; one that isn't printed is empty. Our own.
+/// The journal of a pool on a node; one that isn't printed is empty.
 pub(crate) fn entries_at(report: &Report, place: PoolPlace) -> &[PlainEntry]
     requires { AreKept report.now }
     ensures { result.now ≡ units_journal report.now (named_place place) }
@@ -87,7 +88,7 @@ fn home_in(script: &Script, pool: usize, node: u8) -> u8
     }
 }
 
-/// Where a pool keeps the units of a node. Our own.
+/// Where a pool keeps the units of a node.
 pub(crate) fn home_of(script: &Script, pool: u8, node: u8) -> PoolPlace
     ensures home { named_place result ≡ pool_place script.now pool node }
     ensures small { result.node < 256 }

@@ -1,3 +1,4 @@
+// SPDX-License-Identifier: GPL-2.0-only
 //! The law on pools of units.
 
 ghost use Rattle.std.specs.Prelude.{◌≤◌, length, IfOk};
@@ -97,8 +98,6 @@ fn are_rest_right(alloc: Global, script: &Script, report: &Report) -> Result<boo
 /// has its cause, and each entry is cited or is of a pass; each walk of the pools is lawful and due
 /// to a command; and each deferred word is what the passes left. It wants numbers of their types and
 /// a script of no more pools than have numbers. Want of memory alone is an error.
-///
-/// Our own.
 pub fn are_pools_lawful(alloc: Global, script: &Script, report: &Report) -> Result<bool, Memory>
     requires well { IsWellFormed report.now }
     requires numbers { HasNumbers report.now }

@@ -1,3 +1,4 @@
+// SPDX-License-Identifier: GPL-2.0-only
 //! The replies about pools: each cites its entry, or has its cause.
 
 ghost use Rattle.std.specs.Prelude.{◌≡◌, ℕ, Some, slice_get};
@@ -22,7 +23,7 @@ use shr_base::replies::{Answered, Reply};
 use shr_base::scripts::{Command, Script};
 use shr_laws::report::Report;
 
-/// Which answer of a report: of this worker, to its command with this number. Our own.
+/// Which answer of a report: of this worker, to its command with this number.
 #[derive(Clone, Copy, Debug, PartialEq, Eq)]
 pub struct AnswerAt {
     pub worker: usize,
@@ -189,7 +190,7 @@ fn is_part_right(
     true
 }
 
-/// Whether each reply about a pool cites its entry, or has its cause. Our own.
+/// Whether each reply about a pool cites its entry, or has its cause.
 pub(crate) fn are_replies_right(script: &Script, report: &Report, stocks: &[Stock]) -> bool
     requires kept { AreKept report.now }
     requires stocks { AreStocksOf report.now.units.items stocks.now }

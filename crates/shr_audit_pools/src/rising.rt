@@ -1,3 +1,4 @@
+// SPDX-License-Identifier: GPL-2.0-only
 //! The entries that the replies of a worker cite, one after another.
 
 ghost use Rattle.std.specs.Prelude.{◌≡◌, ◌<◌, option_map, IfOk, IfSome, OnOk};
@@ -41,7 +42,7 @@ fn is_high(lows: &HashMap<u64, u64>, reply: &Reply) -> bool
     }
 }
 
-/// Notes that later entries are to be above the one that a reply cites. Our own.
+/// Notes that later entries are to be above the one that a reply cites.
 pub(crate) fn note_reply(lows: &mut HashMap<u64, u64>, reply: &Reply) -> Result<(), Memory>
     ensures { OnOk result (NotesUnitsReply reply.now lows.old lows.new) }
 {
@@ -70,7 +71,7 @@ fn are_rising(alloc: Global, answers: &[Answered]) -> Result<bool, Memory>
     Ok(true)
 }
 
-/// The same of all workers. Our own.
+/// The same of all workers.
 pub(crate) fn are_all_rising(alloc: Global, report: &Report) -> Result<bool, Memory>
     ensures { IfOk result (λ b. Decides b (AreAllRising report.now.workers.items)) }
 {

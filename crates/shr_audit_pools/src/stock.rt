@@ -1,3 +1,4 @@
+// SPDX-License-Identifier: GPL-2.0-only
 //! What is read once of the journals of the pools: how many units are free after each entry, and the
 //! Reclaim entries of each walk.
 
@@ -21,7 +22,7 @@ use shr_base::memory::Memory;
 use shr_laws::report::Report;
 use std::alloc::Global;
 
-/// A Reclaim entry with its number, and its walk by one number. Our own.
+/// A Reclaim entry with its number, and its walk by one number.
 #[derive(Clone, Copy, Debug, PartialEq, Eq)]
 pub struct Reclaimed {
     pub key: u64,
@@ -31,7 +32,7 @@ pub struct Reclaimed {
 }
 
 /// What is read once of the journal of a pool on a node: how many units are free after so many
-/// entries, and its Reclaim entries by their walks. Our own.
+/// entries, and its Reclaim entries by their walks.
 #[derive(Drop)]
 pub struct Stock {
     pub free: Vec<u32>,
@@ -122,7 +123,7 @@ fn stock_of(alloc: Global, entries: &[PlainEntry]) -> Result<Stock, Memory>
     Ok(Stock { free, reclaims })
 }
 
-/// That of each journal. Our own.
+/// That of each journal.
 pub(crate) fn stocks_of(alloc: Global, report: &Report) -> Result<Vec<Stock>, Memory>
     requires { AreKept report.now }
     ensures { IfOk result (λ stocks. AreStocksOf report.now.units.items stocks.items) }
@@ -144,7 +145,7 @@ fn is_free_in(stock: &Stock, entries: u32, free: u32) -> bool
     entries < stock.free.len() && stock.free[entries] == free
 }
 
-/// The same of a pool on a node. Our own.
+/// The same of a pool on a node.
 pub(crate) fn is_free_after(
     report: &Report,
     stocks: &[Stock],
@@ -215,7 +216,7 @@ fn of_walk(stock: &Stock, worker: usize, walk: usize) -> &[Reclaimed]
     with_key(stock.reclaims.as_slice(), key)
 }
 
-/// The same at a pool on a node. Our own.
+/// The same at a pool on a node.
 pub(crate) fn reclaims_at<'a>(
     report: &Report,
     stocks: &'a [Stock],

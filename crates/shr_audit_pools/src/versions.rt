@@ -1,3 +1,4 @@
+// SPDX-License-Identifier: GPL-2.0-only
 //! The versions that the walks of the pools of a worker counted at, one walk after another.
 
 ghost use Rattle.std.specs.Prelude.{◌≡◌, ℕ, ◌<◌, ◌≤◌, Some, length, slice_get, IfOk, OnOk};
@@ -21,7 +22,7 @@ use shr_laws::report::Report;
 use std::alloc::Global;
 use std::collections::HashMap;
 
-/// The version that a try counted at. Our own.
+/// The version that a try counted at.
 pub(crate) fn version_in(tried: &PlainTry) -> u32
     ensures { result ≡ version_in tried.now }
 {
@@ -106,7 +107,7 @@ fn is_part_versed(alloc: Global, script: &Script, part: &WorkerPart) -> Result<b
     Ok(true)
 }
 
-/// The same of all workers. Our own.
+/// The same of all workers.
 pub(crate) fn are_all_versed(
     alloc: Global,
     script: &Script,

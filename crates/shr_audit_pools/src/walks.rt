@@ -1,3 +1,4 @@
+// SPDX-License-Identifier: GPL-2.0-only
 //! The walks of the pools, one by one.
 
 ghost use Rattle.std.specs.Prelude.{◌≡◌, ℕ, ◌<◌, ◌≤◌, Some, length, slice_get, sum_by};
@@ -20,7 +21,7 @@ use shr_base::walks::{Ending, PassRecord, PlainAnswer, PlainTry, PlainWalk};
 use shr_laws::report::Report;
 
 /// Which try of a report: at this pool, which has this place, of this walk of the pools of this
-/// worker. Our own.
+/// worker.
 #[derive(Clone, Copy, Debug, PartialEq, Eq)]
 pub struct TryAt {
     pub worker: usize,
@@ -278,7 +279,7 @@ fn are_plain_lawful(
     true
 }
 
-/// Whether each walk of the pools is lawful. Our own.
+/// Whether each walk of the pools is lawful.
 pub(crate) fn are_walks_lawful(script: &Script, report: &Report, stocks: &[Stock]) -> bool
     requires kept { AreKept report.now }
     requires stocks { AreStocksOf report.now.units.items stocks.now }

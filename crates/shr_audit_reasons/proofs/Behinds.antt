@@ -1,3 +1,4 @@
+-- SPDX-License-Identifier: GPL-2.0-only
 -- The entry of an id before each entry, one entry after another.
 use Rattle.shr_audit_reasons.proofs.Common.{◌≡◌, inl, inr, ℕ, zero, suc, ◌+◌, ◌-◌, ◌<◌, List, [], ◌∷◌, ◌++◌, length, length-append, get_or, refl, sym, ap, subst, ◌∙◌, arith, option_map, cases_lt, slice_get-get_or, PoolEntry, id_of, AreBehind, HasBehinds, IsBehindOf, IsEntryOfId, length-set, get_or-set_same, get_or-set_other, set, replicate, get_or-replicate, length-replicate, get_or_append_left}
 use Rattle.std.proofs.Math.Seq.{get_or-append_seam}

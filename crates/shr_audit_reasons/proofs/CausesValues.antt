@@ -1,3 +1,4 @@
+-- SPDX-License-Identifier: GPL-2.0-only
 -- What is tested of the law on causes, at known values.
 use Rattle.shr_audit_reasons.proofs.Common.{◌≡◌, ℕ, ◌<◌, ◌≤◌, true, false, List, [], ◌∷◌, Some, None, refl, subst, inl, inr, arith, ◌-◌, Serial, PoolEntry, Registered, Unregistered, Idle, Begin, Done, Cited, Never, Once, Often, IsBehindOf, IsIdledBy, IsSecondOf, CitesNow, IsEarlier, IsFreedAt, IsEntryOfId, TellsCited, cited_in, is_registered_by, is_unregistered_by, noted_at, IsBeginCited, IsDoneNotedOnce, is_cited, is_once, IsAttemptCaused, IsDrainedRightly, ◌^◌}
 use Rattle.shr_base.specs.declared.journals.Entry.TheVariants.{Drained}

@@ -1,3 +1,4 @@
+-- SPDX-License-Identifier: GPL-2.0-only
 -- Operations and puts counted one after another.
 use Rattle.shr_audit_reasons.proofs.SpentCommon.{◌≡◌, ℕ, ◌+◌, ◌<◌, ◌≤◌, Bool, true, false, List, [], ◌∷◌, ◌++◌, length, length-append, get_or, refl, sym, ap, subst, ◌∙◌, arith, filter, UseStep, AreCounted, IsCapped, is_of_kind, zero_more, cond, set, count_by, get_or-set_same, get_or-set_other, length-set, worker_uses}
 use mathlib.Core.Logic.{dite}

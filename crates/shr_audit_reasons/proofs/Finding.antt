@@ -1,3 +1,4 @@
+-- SPDX-License-Identifier: GPL-2.0-only
 -- What is so of whatever was found, and of each walk of the pools.
 use Rattle.shr_audit_reasons.proofs.SpentCommon.{◌≡◌, ℕ, Bool, [], Option, Some, refl, ap, ◌∙◌, arith, slice_get, Decides, WorkerPart, PlainWalk, Report, None, slice_get_within, EachPlain, plain_in}
 use Rattle.shr_audit_case.specs.Each.{InParts}

@@ -1,3 +1,4 @@
+-- SPDX-License-Identifier: GPL-2.0-only
 -- The entries of the journal of registrations against the tables of the answers that made them.
 use Rattle.shr_audit_reasons.proofs.Common.{◌≡◌, ℕ, ◌+◌, ◌-◌, ◌<◌, ◌≤◌, Bool, true, false, cond, List, [], ◌∷◌, length, get_or, take, Option, Some, None, refl, sym, ap, subst, ◌∙◌, arith, eq-eqb, slice_get, option_map, Decides, IsSomeAnd, nat_tests, slice_get_within, Serial, Reply, PoolEntry, Registered, Unregistered, Idle, Script, id_of, phase_of, Report, reply_at, IsBehindOf, IsIdledBy, IsSecondOf, AnswerCites, IsFreedAt, IsNextOf, IsEntryOfId, cited_in, is_registered_by, is_unregistered_by, IsEntryCited, filter_map, count_by, get_or_from_slice_get, decls_on, AreMade, AreRegistrationsCaused}
 use Rattle.std.specs.List.{cons_option, enumerate_from}

@@ -1,3 +1,4 @@
+-- SPDX-License-Identifier: GPL-2.0-only
 -- Answers noted one after another.
 use Rattle.shr_audit_reasons.proofs.Common.{◌≡◌, ℕ, zero, suc, ◌++◌, [], ◌∷◌, ◌+◌, ◌<◌, ◌≤◌, Bool, true, false, List, length, Option, Some, None, refl, sym, ap, subst, ◌∙◌, inl, inr, arith, ◌↔◌, slice_get, option_map, IsSomeAnd, nat_tests, slice_get_within, Serial, Reply, Script, WorkerPart, Report, command_at, reply_at, serial_of, Cited, Never, Once, Often, AreCited, AreCitedBefore, AnswerCites, CitesNow, IsEarlier, NotesAnswer, TellsCited, cited_in, noted_at, ◌⊎◌, ◌==◌, not, answer_at, answers_in, answers_of, IsNever, after_cited}
 use Rattle.std.proofs.lemmas.List.{get_or-set_same, get_or-set_other, length-set}

@@ -1,3 +1,4 @@
+-- SPDX-License-Identifier: GPL-2.0-only
 -- The phases of an id along the journal of registrations.
 use Rattle.shr_audit_reasons.proofs.Common.{◌≡◌, ℕ, zero, suc, ◌+◌, ◌-◌, ◌<◌, ◌≤◌, Bool, cond, List, length, get_or, take, Option, Some, None, refl, sym, ap, subst, ◌∙◌, inl, inr, arith, eq-eqb, ◌↔◌, slice_get, option_map, cases_lt, take_all, slice_get-get_or, PoolEntry, id_of, phase_of, IsBehindOf, IsSecondOf, IsNextOf, IsEntryOfId, ne_eqb, take_more, slice_get_cases, slice_get_past}
 use Rattle.std.proofs.Math.Nat.{eq-or-lt_of_le}

@@ -1,3 +1,4 @@
+-- SPDX-License-Identifier: GPL-2.0-only
 -- What is counted, and what is tested of passes, at known values.
 use Rattle.shr_audit_reasons.proofs.SpentCommon.{◌≡◌, true, false, [], refl, arith, ◌^◌, IsCapped, closed_of, is_of_kind, IsEndSpent}
 use Rattle.shr_base.specs.declared.places.Place.{Place}

@@ -1,3 +1,4 @@
+-- SPDX-License-Identifier: GPL-2.0-only
 -- The entries of the journal of the tree against the table of the answers that cite them.
 use Rattle.shr_audit_reasons.proofs.Common.{◌≡◌, ℕ, Bool, true, List, length, Option, Some, None, refl, sym, ap, subst, ◌∙◌, slice_get, Decides, IsSomeAnd, slice_get_within, Serial, Reply, TreeEntry, Begin, Done, Script, Report, command_at, reply_at, serial_of, IsTreeNumbered, EachItem, Cited, Never, Once, Often, AreCited, AnswerCites, CitesNow, TellsCited, cited_in, IsBeginCited, IsDoneNotedOnce, IsMadeNotedOnce, is_cited, is_once, Made, AreBeginsCaused, AreDonesCaused, AreMadesCaused}
 use Rattle.shr_laws.specs.Causes.{IsOffline, MayHaveBegun}

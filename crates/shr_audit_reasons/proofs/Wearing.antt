@@ -1,3 +1,4 @@
+-- SPDX-License-Identifier: GPL-2.0-only
 -- An attempt that is worn, by its outcome and in the words of the law.
 use Rattle.shr_audit_reasons.proofs.Common.{◌≡◌, ℕ, subst, refl, Script, Report, IsOutcomeCaused}
 use Rattle.shr_base.specs.declared.replies.Spent.TheVariants as spent

@@ -1,3 +1,4 @@
+-- SPDX-License-Identifier: GPL-2.0-only
 -- Which answers speak of an entry of the journals of the tree and of registrations, or of a group.
 use Rattle.std.specs.Prelude.{◌≡◌, ◌≢◌, ◌⊎◌, ℕ, ◌+◌, ◌<◌, ◌≤◌, Bool, true, false, not, ◌||◌, ◌==◌, List, length, slice_get, slice_index_or, slice_set, Option, Some, None, option_map}
 use Rattle.std.specs.Option.{IsSomeAnd}

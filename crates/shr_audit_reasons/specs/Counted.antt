@@ -1,3 +1,4 @@
+-- SPDX-License-Identifier: GPL-2.0-only
 -- What is counted once of a script and a report: closed lists, charges and uncharges of workers, puts.
 use Rattle.std.specs.Prelude.{◌≡◌, ℕ, ◌-◌, ◌^◌, ◌<◌, ◌≤◌, Bool, true, false, cond, List, length, map, count_by, get_or}
 use Rattle.shr_base.specs.declared.journals.UseStep.{UseStep}

@@ -1,3 +1,4 @@
+-- SPDX-License-Identifier: GPL-2.0-only
 -- The later entries of the journal of registrations, and the answers that made them.
 use Rattle.std.specs.Prelude.{◌≡◌, ℕ, ◌-◌, ◌<◌, ◌≤◌, true, List, length, get_or, slice_get, Some}
 use Rattle.std.specs.Option.{IsSomeAnd}

@@ -1,3 +1,4 @@
+-- SPDX-License-Identifier: GPL-2.0-only
 -- The entries of the journal of the tree, and the answers that made them.
 use Rattle.std.specs.Prelude.{◌≡◌, ℕ, Bool, true, false, List, ⊤}
 use Rattle.shr_base.specs.declared.places.Serial.{Serial}

@@ -1,3 +1,4 @@
+// SPDX-License-Identifier: GPL-2.0-only
 //! Attempts that found the lookups of an id used up.
 
 ghost use Rattle.std.specs.Prelude.{◌≡◌, ℕ, Some, slice_get};
@@ -26,7 +27,7 @@ fn lookups_at(report: &Report, id: u16) -> u32
     }
 }
 
-/// Whether so many lookups of an id are as many as use it up, and were printed. Our own.
+/// Whether so many lookups of an id are as many as use it up, and were printed.
 pub fn are_lookups_spent(
     script: &Script,
     report: &Report,
@@ -90,7 +91,7 @@ fn parts_are_worn(script: &Script, report: &Report, parts: &[WorkerPart]) -> boo
     true
 }
 
-/// Whether each attempt is worn only by lookups that were used up. Our own.
+/// Whether each attempt is worn only by lookups that were used up.
 pub fn are_attempts_caused(script: &Script, report: &Report) -> bool
     ensures { Decides result (EachWalk report.now (λ worker n w. EachAttempt w
         (λ a. IsWornRightly script.now report.now worker a))) }

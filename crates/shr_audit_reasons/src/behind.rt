@@ -1,3 +1,4 @@
+// SPDX-License-Identifier: GPL-2.0-only
 //! The entry of an id before another, in the journal of registrations.
 
 ghost use Rattle.std.specs.Prelude.{◌≡◌, ◌+◌, ◌<◌, length, replicate, IfOk, OnOk};
@@ -35,7 +36,7 @@ fn note(
 }
 
 /// For each entry of the journal of registrations the number behind the last entry of its id before
-/// it, 0 where there is none. Our own.
+/// it, 0 where there is none.
 pub fn behinds_of(alloc: Global, pool: &[PoolEntry]) -> Result<Vec<usize>, Memory>
     ensures { IfOk result (λ table. HasBehinds pool.now (length pool.now) table.items) }
 {

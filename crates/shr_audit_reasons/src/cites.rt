@@ -1,3 +1,4 @@
+// SPDX-License-Identifier: GPL-2.0-only
 //! Which answers speak of an entry of the journals of the tree and of registrations, or of a group.
 
 ghost use Rattle.std.specs.Prelude.{◌≡◌, ℕ, ◌↔◌, IfOk, Some, option_copied, true};
@@ -15,7 +16,7 @@ use shr_base::scripts::{Command, Script};
 use shr_laws::report::Report;
 use std::alloc::Global;
 
-/// What an answer may say of an entry or of a group. Our own.
+/// What an answer may say of an entry or of a group.
 #[derive(Clone, Copy, Debug, PartialEq, Eq)]
 pub enum What {
     /// The entry is its own Done.
@@ -32,7 +33,7 @@ pub enum What {
     Begun,
 }
 
-/// Which answers say so: none, one, or more, of which this is the first. Our own.
+/// Which answers say so: none, one, or more, of which this is the first.
 #[derive(Clone, Copy, Debug, PartialEq, Eq)]
 pub enum Cited {
     Never,
@@ -85,7 +86,7 @@ fn unregistered(reply: &Reply) -> Option<usize>
     }
 }
 
-/// The id that an entry of the pool is of. Our own.
+/// The id that an entry of the pool is of.
 pub(crate) fn id_of(entry: PoolEntry) -> u16
     ensures { result ≡ id_of entry }
 {
@@ -176,7 +177,7 @@ fn told(report: &Report, what: What, command: Option<&Command>, reply: &Reply) -
     }
 }
 
-/// What is noted of an entry or a group, nothing past the last. Our own.
+/// What is noted of an entry or a group, nothing past the last.
 pub fn cited_at(table: &[Cited], n: usize) -> Cited
     ensures { result ≡ cited_in table.now n }
 {
@@ -269,7 +270,6 @@ fn none_cited(alloc: Global, size: usize) -> Result<Vec<Cited>, Memory>
 }
 
 /// Which answers say so, for each entry or group below a number. It goes through the answers once.
-/// Our own.
 pub fn note_answers(
     alloc: Global,
     script: &Script,

@@ -1,3 +1,4 @@
+// SPDX-License-Identifier: GPL-2.0-only
 //! Closed lists, charges of workers and puts, counted once.
 
 ghost use Rattle.std.specs.Prelude.{◌≡◌, ℕ, ◌+◌, ◌<◌, List, [], ◌∷◌, ◌++◌, length, filter, get_or, sum_by, IfOk};
@@ -16,7 +17,7 @@ use shr_base::scripts::{Command, Script, WorkerScript};
 use shr_laws::report::Report;
 use std::alloc::Global;
 
-/// What is counted once of a script and a report. A count stops at 4,294,967,295. Our own.
+/// What is counted once of a script and a report. A count stops at 4,294,967,295.
 #[derive(Drop)]
 pub struct Counted {
     /// Whether each list is closed, by its index.
@@ -171,7 +172,7 @@ fn count_puts(script: &Script) -> u32
 }
 
 impl Counted {
-    /// Counts all once. Want of memory alone is an error. Our own.
+    /// Counts all once. Want of memory alone is an error.
     pub fn of(alloc: Global, script: &Script, report: &Report) -> Result<Counted, Memory>
         ensures { IfOk result (λ c. IsCountOf script.now report.now c) }
     {

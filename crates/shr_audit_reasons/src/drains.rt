@@ -1,3 +1,4 @@
+// SPDX-License-Identifier: GPL-2.0-only
 //! Entries with which lists were drained.
 
 ghost use Rattle.std.specs.Prelude.{◌≡◌, true};
@@ -88,7 +89,7 @@ fn are_lists_drained_rightly(report: &Report, ends: &[PlaceEnd]) -> bool
     true
 }
 
-/// Whether each Drained is of a command that drained. Our own.
+/// Whether each Drained is of a command that drained.
 pub fn are_drains_caused(report: &Report) -> bool
     requires { AreInOrder report.now.places.items }
     ensures { Decides result (EachEntry report.now (λ place n e. IsDrainedRightly report.now e)) }

@@ -1,6 +1,7 @@
-//! Whether what a report says has its cause in the report. Our own.
+// SPDX-License-Identifier: GPL-2.0-only
+//! Whether what a report says has its cause in the report.
 //!
-//! Whether passes are worn, and find their lists closed, only where the report says why. Our own.
+//! Passes are exhausted, and find their lists closed, only if the report says why.
 #![tactic(auto)]
 
 pub mod attempts;

@@ -1,3 +1,4 @@
+// SPDX-License-Identifier: GPL-2.0-only
 //! Passes over the caches of a group.
 
 ghost use Rattle.std.specs.Prelude.{◌≡◌, ℕ, ◌<◌, Some, length, slice_get};
@@ -151,7 +152,7 @@ fn are_parts_caused(
 }
 
 /// Whether each pass found its list closed only where it is closed, and is worn only by a counter
-/// that was used up. Our own.
+/// that was used up.
 pub fn are_passes_caused(script: &Script, report: &Report, counted: &Counted) -> bool
     requires order { AreInOrder report.now.places.items }
     requires counted { IsCountOf script.now report.now counted.now }

@@ -1,3 +1,4 @@
+// SPDX-License-Identifier: GPL-2.0-only
 //! Passes over the pools.
 
 ghost use Rattle.std.specs.Prelude.{◌≡◌, ℕ, Some, slice_get};
@@ -84,7 +85,7 @@ fn are_parts_caused(script: &Script, report: &Report, parts: &[WorkerPart]) -> b
     true
 }
 
-/// Whether each pass of a pool is worn only by the pool's journal. Our own.
+/// Whether each pass of a pool is worn only by the pool's journal.
 pub fn are_tries_caused(script: &Script, report: &Report) -> bool
     ensures { Decides result (AreTriesCaused script.now report.now) }
 {

@@ -1,3 +1,4 @@
+// SPDX-License-Identifier: GPL-2.0-only
 //! Journals of pools that were found used up.
 
 ghost use Rattle.std.specs.Prelude.{◌≡◌, ◌+◌, ◌^◌, ◌<◌, ◌≤◌, length, slice_get};
@@ -85,7 +86,7 @@ fn is_full_at(report: &Report, place: Place, free: u32) -> bool
     units.len() == 0x8000_0000 && free as u64 == free_of(units)
 }
 
-/// Whether the journal of a pool on a node was found used up with these numbers. Our own.
+/// Whether the journal of a pool on a node was found used up with these numbers.
 pub fn is_pool_spent(script: &Script, report: &Report, pool: usize, node: u8, spent: Spent) -> bool
     ensures { Decides result (IsPoolSpent report.now (pool_place script.now pool node) spent) }
 {

@@ -1,3 +1,4 @@
+// SPDX-License-Identifier: GPL-2.0-only
 //! The later entries of the journal of registrations, and the answers that made them.
 
 ghost use Rattle.std.specs.Prelude.{◌≡◌, ℕ, ◌<◌, ◌≤◌, Some, length, slice_get, IfOk};
@@ -15,7 +16,7 @@ use shr_base::scripts::Script;
 use shr_laws::report::Report;
 use std::alloc::Global;
 
-/// How many caches of a script are `on`. Our own.
+/// How many caches of a script are `on`.
 pub fn count_on(script: &Script) -> usize
     ensures { result ≡ length (decls_on script.now) }
 {
@@ -29,7 +30,7 @@ pub fn count_on(script: &Script) -> usize
 }
 
 /// What was noted of the journal of registrations: which answers registered, unregistered and freed by
-/// its entries, and where the entry of an id before each of them is. Our own.
+/// its entries, and where the entry of an id before each of them is.
 #[derive(Drop)]
 pub struct Made {
     pub registered: Vec<Cited>,
@@ -86,7 +87,7 @@ fn made_of(alloc: Global, script: &Script, report: &Report) -> Result<Made, Memo
 
 /// Whether each entry of the journal of registrations behind those of the caches that are `on` was
 /// made by an answer: it registered an id, or freed it, or left it half way; the Idle of a freed id
-/// is its next entry. `Memory` is want of memory alone. Our own.
+/// is its next entry. `Memory` is want of memory alone.
 pub fn are_registrations_caused(
     alloc: Global,
     script: &Script,

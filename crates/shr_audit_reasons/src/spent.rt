@@ -1,3 +1,4 @@
+// SPDX-License-Identifier: GPL-2.0-only
 //! Counters that were found used up.
 
 ghost use Rattle.std.specs.Prelude.{◌≡◌, ◌<◌, length};
@@ -26,7 +27,7 @@ fn lookups_at(report: &Report, id: u16) -> u32
     }
 }
 
-/// Whether the journal of a place is closed. Our own.
+/// Whether the journal of a place is closed.
 pub fn is_closed_at(script: &Script, report: &Report, counted: &Counted, place: Place) -> bool
     requires order { AreInOrder report.now.places.items }
     requires counted { IsCountOf script.now report.now counted.now }
@@ -38,7 +39,7 @@ pub fn is_closed_at(script: &Script, report: &Report, counted: &Counted, place: 
     }
 }
 
-/// Whether a counter that a worker found used up has these numbers. Our own.
+/// Whether a counter that a worker found used up has these numbers.
 pub fn is_spent(
     script: &Script,
     report: &Report,
@@ -71,7 +72,7 @@ pub fn is_spent(
     }
 }
 
-/// Whether a pass of a worker that is worn is so by a counter that was used up. Our own.
+/// Whether a pass of a worker that is worn is so by a counter that was used up.
 pub fn is_ending_right(
     script: &Script,
     report: &Report,

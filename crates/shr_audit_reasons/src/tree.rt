@@ -1,3 +1,4 @@
+// SPDX-License-Identifier: GPL-2.0-only
 //! Entries of the journal of the tree, by their numbers.
 
 ghost use Rattle.std.specs.Bool.{Decides};
@@ -7,7 +8,7 @@ ghost use Rattle.shr_laws.specs.Causes.{StandsInTree};
 use shr_base::journals::TreeEntry;
 use shr_laws::report::Report;
 
-/// Whether an entry of the journal of the tree is the Begin of a group. Our own.
+/// Whether an entry of the journal of the tree is the Begin of a group.
 pub fn is_begin_of(report: &Report, entry: u32, group: u16) -> bool
     ensures { Decides result (StandsInTree report.now entry (Begin group)) }
 {
@@ -17,7 +18,7 @@ pub fn is_begin_of(report: &Report, entry: u32, group: u16) -> bool
     }
 }
 
-/// Whether it is the Done of a group. Our own.
+/// Whether it is the Done of a group.
 pub fn is_done_of(report: &Report, entry: u32, group: u16) -> bool
     ensures { Decides result (StandsInTree report.now entry (Done group)) }
 {
@@ -27,7 +28,7 @@ pub fn is_done_of(report: &Report, entry: u32, group: u16) -> bool
     }
 }
 
-/// Whether it is the Made of a group. Our own.
+/// Whether it is the Made of a group.
 pub fn is_made_of(report: &Report, entry: u32, group: u16) -> bool
     ensures { Decides result (StandsInTree report.now entry (Made group)) }
 {

@@ -1,3 +1,4 @@
+// SPDX-License-Identifier: GPL-2.0-only
 //! The entries of the journal of the tree, and the answers that made them.
 
 ghost use Rattle.std.specs.Prelude.{◌≡◌, ℕ, Some, true, slice_get, IfOk};
@@ -22,7 +23,7 @@ fn is_once(cited: Cited) -> bool
     }
 }
 
-/// Whether an answer says so. Our own.
+/// Whether an answer says so.
 pub(crate) fn is_cited(cited: Cited) -> bool
     ensures { result ≡ is_cited cited }
 {
@@ -101,7 +102,7 @@ fn are_begins_cited(table: &[Cited], tree: &[TreeEntry]) -> bool
     true
 }
 
-/// Whether each Done is cited by one answer as its own. Our own.
+/// Whether each Done is cited by one answer as its own.
 pub fn are_dones_caused(alloc: Global, script: &Script, report: &Report) -> Result<bool, Memory>
     ensures { IfOk result (λ b. Decides b (AreDonesCaused report.now)) }
 {
@@ -110,7 +111,7 @@ pub fn are_dones_caused(alloc: Global, script: &Script, report: &Report) -> Resu
     Ok(all)
 }
 
-/// Whether each Made is. Our own.
+/// Whether each Made is.
 pub fn are_mades_caused(alloc: Global, script: &Script, report: &Report) -> Result<bool, Memory>
     ensures { IfOk result (λ b. Decides b (AreMadesCaused report.now)) }
 {
@@ -119,7 +120,7 @@ pub fn are_mades_caused(alloc: Global, script: &Script, report: &Report) -> Resu
     Ok(all)
 }
 
-/// Whether each Begin is of an `offline` that may have begun. Our own.
+/// Whether each Begin is of an `offline` that may have begun.
 pub fn are_begins_caused(alloc: Global, script: &Script, report: &Report) -> Result<bool, Memory>
     ensures { IfOk result (λ b. Decides b (AreBeginsCaused script.now report.now)) }
 {

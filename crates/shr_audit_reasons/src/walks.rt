@@ -1,3 +1,4 @@
+// SPDX-License-Identifier: GPL-2.0-only
 //! Walks that found their groups offline.
 
 ghost use Rattle.std.specs.Bool.{Decides};
@@ -45,7 +46,7 @@ fn parts_begin(report: &Report, parts: &[WorkerPart]) -> bool
     true
 }
 
-/// Whether each walk that found its group offline cites its Begin. Our own.
+/// Whether each walk that found its group offline cites its Begin.
 pub fn walks_begin(report: &Report) -> bool
     ensures { Decides result (EachWalk report.now (λ worker n w. CitesBegin report.now w)) }
 {

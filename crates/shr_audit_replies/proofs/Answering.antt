@@ -1,3 +1,4 @@
+-- SPDX-License-Identifier: GPL-2.0-only
 -- The fields of the law on replies that speak of all answers and entries, from those that are tested.
 use Rattle.shr_audit_replies.proofs.Common.{◌≡◌, ℕ, ◌<◌, ◌≤◌, length, true, Option, Some, None, refl, sym, ap, subst, ◌∙◌, inl, inr, arith, slice_get, none-some, slice_get_cases, slice_get_within, Serial, At, Entry, Look, Answered, Reply, Command, Script, by_of, Report, parents_of, journals_of, answer_at, commands_of, command_at, cited_by, cited_at, at, serial_of, IsReply, AllHaveAnswers, AreLastSwept, AreAnswered, AreValuesLent, AreEntriesCited, option_map, option_and_then, answers_of, reply_at, id_found, EachAnswer, AreJournalsRising, some_injective}
 use Rattle.shr_base.specs.declared.places.Place.{Place}

@@ -1,3 +1,4 @@
+-- SPDX-License-Identifier: GPL-2.0-only
 -- What is decided by what was found.
 use Rattle.shr_audit_replies.proofs.Common.{◌≡◌, ℕ, Bool, true, false, List, Option, Some, None, ap, Decides, At, Entry, PlaceEnd, IsFirst, Family, Cites, ◌↔◌, some_injective}
 

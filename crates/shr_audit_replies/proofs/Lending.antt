@@ -1,3 +1,4 @@
+-- SPDX-License-Identifier: GPL-2.0-only
 -- Values that Looks found, while a journal is gone through.
 use Rattle.shr_audit_replies.proofs.LendingCommon.{◌≡◌, ℕ, ◌<◌, List, [], ◌∷◌, length, take, Option, Some, None, refl, sym, ap, ◌∙◌, arith, Object, Entry, FoundValue, value_met, AreAhead, value_first, values_behind, ◌+◌, false, ◌++◌, get_or, drop, ◌==◌, cond, values_noted}
 use Rattle.std.proofs.lemmas.Bool.Decides.{nat_tests}

@@ -1,3 +1,4 @@
+-- SPDX-License-Identifier: GPL-2.0-only
 -- What a reply lends, against what was found.
 use Rattle.shr_audit_replies.proofs.LendingCommon.{◌≡◌, ℕ, Bool, List, Option, Some, sym, ap, ◌∙◌, Decides, Place, Report, at, option_map, answer_at, IsLentTo}
 use Rattle.shr_base.specs.declared.places.At.{At}

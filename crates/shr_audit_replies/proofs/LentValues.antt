@@ -1,3 +1,4 @@
+-- SPDX-License-Identifier: GPL-2.0-only
 -- Values that hits lend, at known values.
 use Rattle.shr_audit_replies.proofs.LendingCommon.{◌≡◌, List, [], ◌∷◌, Some, None, refl, Entry, Add, Look, FoundValue, AreAhead, value_first, values_behind, true, codes}
 use Rattle.shr_model.specs.Items.{items_from}

@@ -1,3 +1,4 @@
+-- SPDX-License-Identifier: GPL-2.0-only
 -- The items of a list against those of another, one by one.
 use Rattle.shr_audit_replies.proofs.Common.{◌≡◌, ℕ, suc, ◌+◌, ◌<◌, ◌≤◌, Bool, true, false, List, [], ◌∷◌, length, map, Some, refl, sym, ap, subst, ◌∙◌, arith, ◌==◌, slice_get, Decides, nat_tests, slice_get_within, ◌-◌, get_or, take, drop, get_or_from_slice_get, clash}
 use Rattle.std.proofs.lemmas.List.{get_or-map, take_all}

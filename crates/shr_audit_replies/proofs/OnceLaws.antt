@@ -1,3 +1,4 @@
+-- SPDX-License-Identifier: GPL-2.0-only
 -- Whether a place is printed once, and whether answers cite such places.
 use Rattle.shr_audit_replies.proofs.OnceCommon.{◌≡◌, ℕ, zero, suc, ◌+◌, ◌<◌, ◌≤◌, List, [], ◌∷◌, length, get_or, Some, refl, sym, subst, ◌∙◌, inl, inr, arith, slice_get, Decides, PlaceEnd, Place, AreInOrder, IsCitedOnceAt, IsPrintedOnce, Bool, true, false, Option, None, ap, not, option_and_then, option_map, IsFirst, IsIndexOf, end_printed}
 use Rattle.std.proofs.lemmas.Bool.{cases_Bool, cases_lt}

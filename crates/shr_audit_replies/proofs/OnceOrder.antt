@@ -1,3 +1,4 @@
+-- SPDX-License-Identifier: GPL-2.0-only
 -- Lists in the order of their places.
 use Rattle.shr_audit_replies.proofs.OnceCommon.{◌≡◌, ℕ, zero, suc, ◌+◌, ◌<◌, List, length, get_or, sym, subst, ◌∙◌, inl, inr, arith, Place, PlaceEnd, AreInOrder, ◌-◌}
 use Rattle.shr_laws.specs.WellFormed.{IsPlaceBefore, IsPlaceUpTo}

@@ -1,3 +1,4 @@
+-- SPDX-License-Identifier: GPL-2.0-only
 -- Places that are printed once, and one that is printed twice.
 use Rattle.shr_audit_replies.proofs.OnceCommon.{◌≡◌, ℕ, [], ◌∷◌, Some, refl, arith, slice_get, PlaceEnd, Place, IsPrintedOnce}
 

@@ -1,3 +1,4 @@
+-- SPDX-License-Identifier: GPL-2.0-only
 -- What hits lend at each place, against a loop over the lists that are printed.
 use Rattle.shr_audit_replies.proofs.LendingCommon.{◌≡◌, ℕ, Bool, List, [], take, Some, refl, sym, ap, subst, arith, slice_get, Decides, Place, Entry, Add, Look, lists_moved_at, value_met, Report, journals_of, EachFirst, IsFirst, AreMetLent, AreValuesLentAt, IsLent, inl, inr, slice_get_within, Drop, Pin, Scan, MovedIn, Closed, Drained, journal_of, parents_of, IsValueLent}
 use Rattle.shr_base.specs.declared.scripts.Script.{Script}

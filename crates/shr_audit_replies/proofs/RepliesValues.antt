@@ -1,3 +1,4 @@
+-- SPDX-License-Identifier: GPL-2.0-only
 -- What is tested of the law on replies, at known values.
 use Rattle.shr_audit_replies.proofs.Common.{◌≡◌, ℕ, ◌<◌, ◌≤◌, true, List, [], ◌∷◌, length, Option, Some, refl, ap, subst, arith, none-some, slice_get_within, At, Serial, Entry, Add, Look, Get, On, Command, Family, at, cited_at, Last, HasAnswers, HasNames, HasPaths, HasSizes, IsLastSwept, MayReply, AreCommandsRising, IsCited, IsAfter, last_of_worker, noted_by, codes, HasPoolNames}
 use Rattle.shr_base.specs.declared.replies.Reply.TheVariants as reply

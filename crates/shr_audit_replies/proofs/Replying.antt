@@ -1,3 +1,4 @@
+-- SPDX-License-Identifier: GPL-2.0-only
 -- What the table of replies says of entries that replies cite.
 use Rattle.shr_audit_replies.proofs.Common.{◌≡◌, ℕ, true, false, List, Option, Some, None, refl, sym, subst, ◌∙◌, slice_get, Serial, At, Entry, Add, Look, Drop, Pin, Reply, Command, Get, Family, by_of, cited_by, Cites, IsReply, MayReply, On, Put, Del, SetPin, LendsValue, some_injective}
 use Rattle.shr_base.specs.declared.journals.DropKind.TheVariants as kind

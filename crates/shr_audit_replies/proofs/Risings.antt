@@ -1,3 +1,4 @@
+-- SPDX-License-Identifier: GPL-2.0-only
 -- One journal gone through with the last entry of each worker's at hand.
 use Rattle.shr_audit_replies.proofs.Common.{◌≡◌, ℕ, suc, ◌+◌, [], ◌∷◌, ◌<◌, ◌≤◌, Bool, true, false, List, length, Option, Some, None, refl, sym, ap, subst, ◌∙◌, arith, slice_get, ◌==◌, nat_tests, slice_get_within, Serial, Entry, by_of, Last, AreCommandsRising, AreOfEarlierJournals, IsAfter, last_of_worker, no_last, noted_by, zero, lit<, ◌++◌, GoesOnBy, some_injective}
 use Rattle.std.proofs.lemmas.List.{get_or-set_same, get_or-set_other, length-set}

@@ -1,3 +1,4 @@
+-- SPDX-License-Identifier: GPL-2.0-only
 -- The law on replies, from what is tested of it and back.
 use Rattle.shr_audit_replies.proofs.Common.{Script, Report, AreValuesLent, AreRepliesLawfulButValues}
 use Rattle.shr_laws.specs.Replies.{AreRepliesLawful}

@@ -1,3 +1,4 @@
+-- SPDX-License-Identifier: GPL-2.0-only
 -- What stands at the head of a report, and how many answers there are.
 use Rattle.std.specs.Prelude.{◌≡◌, ℕ, ◌+◌, ◌∷◌, length, map, codes, Some}
 use Rattle.shr_base.specs.declared.replies.Answered.{Answered}

@@ -1,3 +1,4 @@
+-- SPDX-License-Identifier: GPL-2.0-only
 -- The values that hits lend, against those that Looks found. No public clause cites this.
 use Rattle.std.specs.Prelude.{◌≡◌, ℕ, ◌==◌, true, List, [], ◌∷◌, slice_get, take, drop, Option, Some, None, cond}
 use Rattle.shr_base.specs.declared.objects.Object.{Object}

@@ -1,3 +1,4 @@
+-- SPDX-License-Identifier: GPL-2.0-only
 pub mod Heads
 pub mod Answers
 pub mod Cited

@@ -1,3 +1,4 @@
+-- SPDX-License-Identifier: GPL-2.0-only
 -- No answer cites a place that is printed twice.
 use Rattle.std.specs.Prelude.{◌≡◌, ℕ, List, slice_get, Some}
 use Rattle.shr_base.specs.declared.ends.PlaceEnd.{PlaceEnd}

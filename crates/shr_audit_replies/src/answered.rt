@@ -1,3 +1,4 @@
+// SPDX-License-Identifier: GPL-2.0-only
 //! Whether each answer is one that its command may have, but for the value of a hit.
 
 ghost use Rattle.std.specs.Prelude.{◌≡◌, ℕ, Some, slice_get};
@@ -88,7 +89,7 @@ fn are_workers_answered(script: &Script, report: &Report, parts: &[WorkerPart]) 
 }
 
 /// Whether each answer is one that its command may have, whatever value a hit lends. It costs a
-/// search for the place of each entry that is cited. Our own.
+/// search for the place of each entry that is cited.
 pub fn are_answered(script: &Script, report: &Report) -> bool
     requires { AreInOrder report.now.places.items }
     ensures { Decides result (AreAnswered script.now report.now) }

@@ -1,3 +1,4 @@
+// SPDX-License-Identifier: GPL-2.0-only
 //! Whether each entry of a tenant is cited by the reply to its command.
 
 ghost use Rattle.std.specs.Prelude.{◌≡◌, ℕ, Some, slice_get, true};
@@ -17,7 +18,7 @@ use shr_base::places::{At, Place, Serial};
 use shr_base::replies::Reply;
 use shr_laws::report::Report;
 
-/// The command of a tenant's entry. Our own.
+/// The command of a tenant's entry.
 pub fn by_of(entry: &Entry) -> Option<Serial>
     ensures { result ≡ by_of entry.now }
 {
@@ -116,7 +117,7 @@ fn are_lists_cited(report: &Report, ends: &[PlaceEnd]) -> bool
     true
 }
 
-/// Whether each entry of a tenant is cited by the reply to its command. Our own.
+/// Whether each entry of a tenant is cited by the reply to its command.
 pub fn are_entries_cited(report: &Report) -> bool
     requires { AreInOrder report.now.places.items }
     ensures { Decides result (AreEntriesCited report.now) }

@@ -1,3 +1,4 @@
+// SPDX-License-Identifier: GPL-2.0-only
 //! Which replies a tenant's command may have with a cache that was found, and what they cite.
 
 ghost use Rattle.std.specs.Prelude.{◌≡◌, ℕ, ◌↔◌, List, Some, option_copied};
@@ -183,7 +184,7 @@ fn isolate_held(reply: &Reply) -> bool
 }
 
 /// Whether a command may have this reply where the cache with this id was found, whatever value a
-/// hit lends. Our own.
+/// hit lends.
 pub fn may_held(
     report: &Report,
     worker: usize,

@@ -1,3 +1,4 @@
+// SPDX-License-Identifier: GPL-2.0-only
 //! Whether an entry is one that a reply may cite.
 
 ghost use Rattle.std.specs.Prelude.{◌≡◌};
@@ -10,7 +11,7 @@ use shr_base::places::{Serial, Target};
 use shr_base::text::Text;
 
 /// A tenant's command by its numbers: its worker and its own, where it finds its object, and the id
-/// of the cache that was found. Our own.
+/// of the cache that was found.
 #[derive(Clone, Copy, Debug, PartialEq, Eq)]
 pub struct Tenant {
     pub worker: usize,
@@ -19,7 +20,7 @@ pub struct Tenant {
     pub id: u16,
 }
 
-/// The tenant's command with this number, at this target. Our own.
+/// The tenant's command with this number, at this target.
 pub fn tenant_of(worker: usize, command: usize, target: Target, id: u16) -> Tenant
     ensures { result ≡ record {
       worker = worker;
@@ -43,7 +44,7 @@ fn is_own(by: Serial, tenant: Tenant) -> bool
     by.worker as usize == tenant.worker && by.command as usize == tenant.command
 }
 
-/// Whether an entry is the Add of this command, with this outcome. Our own.
+/// Whether an entry is the Add of this command, with this outcome.
 pub fn is_add(entry: &Entry, tenant: Tenant, key: &Text, value: &Text, added: bool) -> bool
     ensures { Decides result (entry.now ≡ Add
         (serial_of tenant.worker tenant.command) tenant.target.group added key.now value.now) }
@@ -66,7 +67,7 @@ pub fn is_add(entry: &Entry, tenant: Tenant, key: &Text, value: &Text, added: bo
     }
 }
 
-/// Whether an entry is the Look of this command, with this outcome. Our own.
+/// Whether an entry is the Look of this command, with this outcome.
 pub fn is_look(entry: &Entry, tenant: Tenant, key: &Text, hit: bool) -> bool
     ensures { Decides result (entry.now ≡ Look
         (serial_of tenant.worker tenant.command) tenant.target.group key.now hit) }
@@ -85,7 +86,7 @@ pub fn is_look(entry: &Entry, tenant: Tenant, key: &Text, hit: bool) -> bool
     }
 }
 
-/// Whether an entry is the Drop of this command, with this outcome. Our own.
+/// Whether an entry is the Drop of this command, with this outcome.
 pub fn is_drop(entry: &Entry, tenant: Tenant, key: &Text, kind: DropKind) -> bool
     ensures { Decides result (entry.now ≡ Drop
         (serial_of tenant.worker tenant.command) tenant.target.group key.now kind) }
@@ -104,7 +105,7 @@ pub fn is_drop(entry: &Entry, tenant: Tenant, key: &Text, kind: DropKind) -> boo
     }
 }
 
-/// Whether an entry is the Pin of this command, with this outcome. Our own.
+/// Whether an entry is the Pin of this command, with this outcome.
 pub fn is_pin(entry: &Entry, tenant: Tenant, key: &Text, pinned: bool, hit: bool) -> bool
     ensures { Decides result (entry.now ≡ Pin
         (serial_of tenant.worker tenant.command) tenant.target.group key.now pinned hit) }

@@ -1,3 +1,4 @@
+// SPDX-License-Identifier: GPL-2.0-only
 //! What stands at the head of a report, and how many answers there are.
 
 ghost use Rattle.std.specs.Prelude.{◌≡◌, ◌∷◌, codes, map};
@@ -11,7 +12,7 @@ use shr_base::scripts::{CacheDecl, GroupDecl, PoolDecl, Script};
 use shr_base::text::Text;
 use shr_laws::report::Report;
 
-/// Whether a report has the version and the sizes of a script. Our own.
+/// Whether a report has the version and the sizes of a script.
 pub fn has_sizes(script: &Script, report: &Report) -> bool
     ensures { Decides result (HasSizes script.now report.now) }
 {
@@ -105,7 +106,7 @@ fn are_all_paths(paths: &[Text], groups: &[GroupDecl]) -> bool
     all
 }
 
-/// Whether a report has the paths of a script's groups, that of the root first. Our own.
+/// Whether a report has the paths of a script's groups, that of the root first.
 pub fn has_paths(script: &Script, report: &Report) -> bool
     ensures { Decides result (HasPaths script.now report.now) }
 {
@@ -113,7 +114,7 @@ pub fn has_paths(script: &Script, report: &Report) -> bool
     all
 }
 
-/// Whether it has the names of its caches. Our own.
+/// Whether it has the names of its caches.
 pub fn has_names(script: &Script, report: &Report) -> bool
     ensures { Decides result (HasNames script.now report.now) }
 {
@@ -121,7 +122,7 @@ pub fn has_names(script: &Script, report: &Report) -> bool
     all
 }
 
-/// Whether it has the names of its pools. Our own.
+/// Whether it has the names of its pools.
 pub fn has_pool_names(script: &Script, report: &Report) -> bool
     ensures { Decides result (HasPoolNames script.now report.now) }
 {
@@ -142,7 +143,7 @@ fn has_answers(script: &Script, report: &Report, worker: usize) -> bool
 }
 
 /// Whether each worker has one answer per command, and behind them one to the sweep of a script
-/// that has one. Our own.
+/// that has one.
 pub fn is_counted(script: &Script, report: &Report) -> bool
     ensures { Decides result (AllHaveAnswers script.now report.now) }
 {
@@ -175,7 +176,7 @@ fn is_last_swept(script: &Script, report: &Report, worker: usize) -> bool
     }
 }
 
-/// Whether that is so of each worker. Our own.
+/// Whether that is so of each worker.
 pub fn are_last_swept(script: &Script, report: &Report) -> bool
     ensures { Decides result (AreLastSwept script.now report.now) }
 {

@@ -1,3 +1,4 @@
+// SPDX-License-Identifier: GPL-2.0-only
 //! The law on replies, field by field.
 
 ghost use Rattle.std.specs.Prelude.{IfOk};
@@ -14,7 +15,7 @@ use shr_base::scripts::Script;
 use shr_laws::report::Report;
 use std::alloc::Global;
 
-/// Whether a report has at its head what the script says. Our own.
+/// Whether a report has at its head what the script says.
 pub fn has_heads(script: &Script, report: &Report) -> bool
     ensures { Decides result (HasHeads script.now report.now) }
 {
@@ -32,7 +33,7 @@ pub fn has_heads(script: &Script, report: &Report) -> bool
 }
 
 /// Whether the replies of a report are lawful for a script, but for the values that hits lend.
-/// `Memory` is want of memory alone. Our own.
+/// `Memory` is want of memory alone.
 pub fn are_replies_lawful_but_values(
     alloc: Global,
     script: &Script,

@@ -1,3 +1,4 @@
+// SPDX-License-Identifier: GPL-2.0-only
 //! The values that hits lend, against those that Looks found.
 
 ghost use Rattle.std.specs.Prelude.{◌≡◌, ℕ, true, List, [], Some};
@@ -149,7 +150,7 @@ fn are_lists_lent(report: &Report, case: &Case, ends: &[PlaceEnd]) -> bool
 }
 
 /// Whether each hit that cites a Look lends the value of the object that the Look met; if it met
-/// none, no value is right. The case is that of the script and the report. Our own.
+/// none, no value is right. The case is that of the script and the report.
 pub fn are_values_lent(script: &Script, report: &Report, case: &Case) -> bool
     requires { IsCaseOf script.now report.now case.now }
     ensures { Decides result (AreValuesLent script.now report.now) }

@@ -1,3 +1,4 @@
+// SPDX-License-Identifier: GPL-2.0-only
 //! Commands and answers by the numbers of their workers and their own.
 
 ghost use Rattle.std.specs.Prelude.{◌≡◌, length, option_copied};
@@ -7,7 +8,7 @@ use shr_base::replies::Answered;
 use shr_base::scripts::{Command, Script};
 use shr_laws::report::Report;
 
-/// How many answers a worker has, none past the last part. Our own.
+/// How many answers a worker has, none past the last part.
 pub fn count_answers(report: &Report, worker: usize) -> usize
     ensures { result ≡ length (answers_of report.now worker) }
 {
@@ -17,7 +18,7 @@ pub fn count_answers(report: &Report, worker: usize) -> usize
     }
 }
 
-/// How many commands a worker has, none past the last worker. Our own.
+/// How many commands a worker has, none past the last worker.
 pub fn count_commands(script: &Script, worker: usize) -> usize
     ensures { result ≡ length (commands_of script.now worker) }
 {
@@ -27,7 +28,7 @@ pub fn count_commands(script: &Script, worker: usize) -> usize
     }
 }
 
-/// How many answers a worker has to the sweep of a script, 1 at most. Our own.
+/// How many answers a worker has to the sweep of a script, 1 at most.
 pub fn count_sweeps(script: &Script, worker: usize) -> usize
     ensures { result ≡ sweeps_of script.now worker }
 {
@@ -40,7 +41,7 @@ pub fn count_sweeps(script: &Script, worker: usize) -> usize
     }
 }
 
-/// The command of a worker with this number, if it has one. Our own.
+/// The command of a worker with this number, if it has one.
 pub fn command_of(script: &Script, worker: usize, number: usize) -> Option<&Command>
     ensures { option_copied result ≡ command_at script.now (serial_of worker number) }
 {
@@ -50,7 +51,7 @@ pub fn command_of(script: &Script, worker: usize, number: usize) -> Option<&Comm
     }
 }
 
-/// The answer of a worker with this number, if it has one. Our own.
+/// The answer of a worker with this number, if it has one.
 pub fn answer_of(report: &Report, worker: usize, number: usize) -> Option<&Answered>
     ensures { option_copied result ≡ answer_at report.now (serial_of worker number) }
 {

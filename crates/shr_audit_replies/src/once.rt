@@ -1,3 +1,4 @@
+// SPDX-License-Identifier: GPL-2.0-only
 //! Whether answers cite places that are printed twice.
 
 ghost use Rattle.std.specs.Prelude.{◌≡◌, ℕ};
@@ -6,8 +7,8 @@ ghost use Rattle.shr_audit_case.specs.Places.{AreInOrder};
 ghost use Rattle.shr_laws.specs.Parts.{cited_by};
 ghost use Rattle.shr_audit_replies.specs.Once.{AreCitedOnce, IsCitedOnceAt, IsPrintedOnce};
 
-use shr_audit_case::places::index_of;
 use crate::numbers::{answer_of, count_answers};
+use shr_audit_case::places::index_of;
 use shr_base::ends::PlaceEnd;
 use shr_base::places::{At, Place};
 use shr_base::replies::Reply;
@@ -78,7 +79,7 @@ fn is_worker_once(report: &Report, worker: usize) -> bool
     true
 }
 
-/// Whether no answer cites a place that is printed twice. Our own.
+/// Whether no answer cites a place that is printed twice.
 pub fn are_cited_once(report: &Report) -> bool
     requires { AreInOrder report.now.places.items }
     ensures { Decides result (AreCitedOnce report.now) }

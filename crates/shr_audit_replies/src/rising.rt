@@ -1,3 +1,4 @@
+// SPDX-License-Identifier: GPL-2.0-only
 //! Whether the commands of each worker rise along each journal.
 
 ghost use Rattle.std.specs.Prelude.{◌≡◌, ◌+◌, IfOk, length, true};
@@ -17,7 +18,7 @@ use shr_laws::report::Report;
 use std::alloc::Global;
 
 /// The last entry of a worker's: the number of its journal, from 1, and the number of the command
-/// behind its own. Our own.
+/// behind its own.
 #[derive(Clone, Copy, Debug, PartialEq, Eq)]
 pub struct Last {
     pub journal: usize,
@@ -107,7 +108,7 @@ fn are_lists_rising(alloc: Global, ends: &[PlaceEnd]) -> Result<bool, Memory>
     Ok(true)
 }
 
-/// Whether the commands of each worker rise along each journal. Our own.
+/// Whether the commands of each worker rise along each journal.
 pub fn are_journals_rising(alloc: Global, report: &Report) -> Result<bool, Memory>
     requires { AreInOrder report.now.places.items }
     ensures { IfOk result (λ b. Decides b (AreJournalsRising report.now)) }

@@ -1,3 +1,4 @@
+// SPDX-License-Identifier: GPL-2.0-only
 //! Which replies a command may have.
 
 ghost use Rattle.std.specs.Prelude.{ℕ, List, Bool, None};
@@ -233,7 +234,7 @@ fn isolate_unheld(reply: &Reply) -> bool
     }
 }
 
-/// Whether a command may have this reply where no cache was found. Our own.
+/// Whether a command may have this reply where no cache was found.
 pub fn may_unheld(command: &Command, reply: &Reply) -> bool
     ensures { (parents : List ℕ) (family : Family) (by : Serial)
         → Decides result (MayReply parents family by command.now None reply.now) }

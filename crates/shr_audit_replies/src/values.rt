@@ -1,3 +1,4 @@
+// SPDX-License-Identifier: GPL-2.0-only
 //! The law on replies.
 
 ghost use Rattle.std.specs.Prelude.{IfOk};
@@ -5,16 +6,16 @@ ghost use Rattle.std.specs.Bool.{Decides};
 ghost use Rattle.shr_audit_case.specs.Lists.{IsCaseOf};
 ghost use Rattle.shr_laws.specs.Replies.{AreRepliesLawful};
 
+use crate::law::are_replies_lawful_but_values;
 use crate::lent::are_values_lent;
 use shr_audit_case::case::Case;
-use crate::law::are_replies_lawful_but_values;
 use shr_base::memory::Memory;
 use shr_base::scripts::Script;
 use shr_laws::report::Report;
 use std::alloc::Global;
 
 /// Whether the replies of a report are lawful for a script, with the values that hits lend. The
-/// case is that of the two. `Memory` is want of memory alone. Our own.
+/// case is that of the two. `Memory` is want of memory alone.
 pub fn are_replies_lawful(
     alloc: Global,
     script: &Script,

@@ -1,3 +1,4 @@
+-- SPDX-License-Identifier: GPL-2.0-only
 -- What answers say of declarations, added one after another.
 use Rattle.shr_audit_rows.proofs.Common.{◌≡◌, ℕ, ◌+◌, ◌<◌, ◌≤◌, List, [], ◌∷◌, ◌++◌, length, Option, Some, None, sym, ap, subst, ◌∙◌, inl, inr, arith, option_and_then, option_map, cases_lt, append-nil, slice_get_past, WorkerPart, Answered, Reply, Command, Script, EachItem, decl_named, Report, answer_at, answers_in, answers_of, command_at, reply_at, serial_of, Asked, AddsSo, AreAllSo, IsAskedRight, IsSoIfAsked, asked_at, asked_in, option_to_list, all_of, each_in}
 use Rattle.std.specs.List.{AllByRecursion}

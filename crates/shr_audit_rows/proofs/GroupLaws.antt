@@ -1,3 +1,4 @@
+-- SPDX-License-Identifier: GPL-2.0-only
 -- The groups of a script, the root first.
 use Rattle.shr_audit_rows.proofs.Common.{◌≡◌, ℕ, zero, suc, ◌-◌, List, ◌∷◌, get_or, map, Option, Some, None, refl, sym, ap, ◌∙◌, arith, slice_get, option_map, get_or_from_slice_get, slice_get-map, GroupDecl, unwrap_or, unwrap_or-slice_get}
 

@@ -1,3 +1,4 @@
+-- SPDX-License-Identifier: GPL-2.0-only
 -- What is said of declarations, in the order of the entries.
 use Rattle.shr_audit_rows.proofs.Common.{◌≡◌, ℕ, ◌+◌, ◌<◌, ◌≤◌, Bool, true, false, List, [], ◌∷◌, length, get_or, take, Option, Some, None, refl, sym, ap, subst, ◌∙◌, arith, ◌&&◌, not, is_some, slice_get, Decides, IsSomeAnd, and_parts, and_from, get_or_from_slice_get, slice_get_within, PoolEntry, Script, EachItem, decides_iff, Report, Asked, AreAllSo, IsAskedSo, IsSaid, IsAskedRight, Stands, IsPermutation, slice_get-get_or, clash, is_live_decl, lowest_idle}
 use Rattle.std.specs.List.{All}

@@ -1,3 +1,4 @@
+-- SPDX-License-Identifier: GPL-2.0-only
 -- When groups were made, and done, one entry of the journal of the tree after another.
 use Rattle.shr_audit_rows.proofs.Common.{◌≡◌, ◌⊎◌, ℕ, zero, suc, ◌+◌, ◌<◌, ◌≤◌, Bool, true, false, cond, List, [], ◌∷◌, length, get_or, set, take, replicate, Option, Some, None, refl, sym, ap, subst, ◌∙◌, inl, inr, arith, eq-eqb, ne_eqb, length-set, get_or-set_same, get_or-set_other, ◌&&◌, ◌||◌, ◌==◌, nat_lt, is_some, not, Decides, and_from, get_or-replicate, length-replicate, take_more, eq-or-lt_of_le, dite, ℕ_discrete, Script, is_done, is_making, Report, done_in, group_made_in, find, is_none, done_of, is_made, is_undone_child, made_of, undone_child, script_hierarchy, later_of, parents_of, AreMoments, moment_noted}
 use Rattle.std.specs.List.{position_from, range_with_len}

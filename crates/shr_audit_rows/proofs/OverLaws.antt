@@ -1,3 +1,4 @@
+-- SPDX-License-Identifier: GPL-2.0-only
 -- An Over against the charges of its command.
 use Rattle.shr_audit_rows.proofs.Common.{◌≡◌, ℕ, zero, suc, ◌+◌, ◌-◌, ◌<◌, ◌≤◌, Bool, true, false, cond, List, [], ◌∷◌, drop, map, Option, Some, None, refl, sym, ap, subst, ◌∙◌, inl, inr, arith, ◌==◌, nat_eq, slice_get, option_and_then, option_map, Decides, get, IsSomeAnd, and_from, cases_lt, nat_tests, slice_get-map, slice_get_within, UseStep, Serial, GroupDecl, Script, is_by, ops_by, ups, Report, Tried, AreTries, IsTriedKeyed, TriedMap, TriesIn, tried_key, pos, nat_le, limit_of, uses_at, IsTriedBy, some_injective}
 use Rattle.std.proofs.lemmas.Bool.{eq-eqb}

@@ -1,3 +1,4 @@
+-- SPDX-License-Identifier: GPL-2.0-only
 -- Each id, one entry of the journal of registrations after another.
 use Rattle.shr_audit_rows.proofs.Common.{◌≡◌, ℕ, zero, suc, ◌+◌, ◌<◌, ◌≤◌, Bool, true, false, cond, List, [], ◌∷◌, ◌++◌, length, get_or, set, take, replicate, Option, Some, None, refl, sym, ap, subst, ◌∙◌, inl, inr, arith, eq-eqb, ne_eqb, length-set, get_or-set_same, get_or-set_other, ◌&&◌, ◌||◌, ◌==◌, nat_lt, is_some, cases_lt, get_or-replicate, length-replicate, take_more, eq-or-lt_of_le, dite, ℕ_discrete, PoolEntry, decl_after, id_of, Stands, is_free_in, ◌%◌, add-one, if◌then◌else◌, IsBlankFor, is_live_in}
 use Rattle.shr_base.specs.declared.journals.PoolEntry.TheVariants.{Registered, Unregistered, Idle}

@@ -1,3 +1,4 @@
+-- SPDX-License-Identifier: GPL-2.0-only
 -- Causes of replies, from the parts in which they are tested.
 use Rattle.shr_audit_rows.proofs.Common.{◌≡◌, ℕ, ◌<◌, ◌≤◌, Bool, true, false, [], length, Option, Some, None, refl, sym, ap, subst, ◌∙◌, arith, slice_get, option_and_then, option_map, Decides, slice_get_past, slice_get_within, WorkerPart, Serial, Answered, Reply, Command, Script, decides_iff, decl_named, Report, answer_at, answers_in, answers_of, command_at, reply_at, serial_of, IsAskedSo, IsSoIfAsked, asked_at, asked_in, HasCountCause, IsCausedAt, EachAnswer, commands_in, AreFew, HasCauseButEnds, HasStateCause, some_injective}
 use Rattle.shr_base.specs.declared.replies.Reply.TheVariants as reply

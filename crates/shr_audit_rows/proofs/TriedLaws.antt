@@ -1,3 +1,4 @@
+-- SPDX-License-Identifier: GPL-2.0-only
 -- The charges of commands in groups, one operation after another.
 use Rattle.shr_audit_rows.proofs.Common.{◌≡◌, ◌⊎◌, ℕ, zero, suc, ◌+◌, ◌<◌, ◌≤◌, Bool, true, false, cond, List, [], ◌∷◌, ◌++◌, length, get_or, set, take, drop, replicate, Option, Some, None, refl, sym, ap, subst, ◌∙◌, inl, inr, arith, eq-eqb, ne_eqb, length-set, get_or-set_same, get_or-set_other, ◌==◌, nat_eq, nat_lt, not, slice_get, get, and_parts, and_from, nat_tests, append-nil, get_or-replicate, length-replicate, take_more, sum_by-cons, slice_get_within, dite, ℕ_discrete, UseStep, Serial, is_by, ops_by, ups, serial_of, Tried, AreTries, IsTriedKeyed, TriedMap, TriesIn, tried_key, min, length-append, filter, cases_Bool, eqb-true, drop-append-le, take_all, count_by-le-length, length-filter, sum_by-append, IsLastNoted, step_key, last_with, ups_with, tried_uses}
 use Rattle.std.proofs.lemmas.List.Elements.{filter-append}

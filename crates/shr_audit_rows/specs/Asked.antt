@@ -1,3 +1,4 @@
+-- SPDX-License-Identifier: GPL-2.0-only
 -- What replies say of a declaration after so many entries of the journal of registrations.
 use Rattle.std.specs.Prelude.{ℕ, ◌↔◌, List, Option, Some, None, option_and_then}
 use Rattle.std.specs.Option.{IsSomeAnd}

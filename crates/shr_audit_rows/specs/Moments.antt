@@ -1,3 +1,4 @@
+-- SPDX-License-Identifier: GPL-2.0-only
 -- When groups were made, and done, by the entries of the journal of the tree.
 use Rattle.std.specs.Prelude.{◌≡◌, ℕ, ◌<◌, ◌≤◌, ◌==◌, ◌&&◌, nat_lt, cond, is_some, List, length, get_or, set, take, Option, Some, None}
 use Rattle.shr_base.specs.declared.journals.TreeEntry.{TreeEntry}

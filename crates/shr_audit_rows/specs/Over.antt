@@ -1,3 +1,4 @@
+-- SPDX-License-Identifier: GPL-2.0-only
 -- What an Over says of the last charge, against the charges of its command.
 use Rattle.std.specs.Prelude.{◌≡◌, ℕ, pos, ◌≤◌}
 use Rattle.std.specs.Option.{IsSomeAnd}

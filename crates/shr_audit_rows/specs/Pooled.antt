@@ -1,3 +1,4 @@
+-- SPDX-License-Identifier: GPL-2.0-only
 -- Each id after entries of the journal of registrations. No clause of the law cites this.
 use Rattle.std.specs.Prelude.{◌≡◌, ℕ, ◌<◌, ◌%◌, ◌&&◌, ◌==◌, nat_lt, Bool, List, length, get_or}
 use Rattle.shr_base.specs.declared.journals.PoolEntry.{PoolEntry}

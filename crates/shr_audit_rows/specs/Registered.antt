@@ -1,3 +1,4 @@
+-- SPDX-License-Identifier: GPL-2.0-only
 -- Entries of the journal of registrations that a reply made.
 use Rattle.std.specs.Prelude.{◌≡◌, ℕ, slice_get, Some}
 use Rattle.shr_base.specs.declared.journals.PoolEntry.TheVariants.{Registered}

@@ -1,3 +1,4 @@
+-- SPDX-License-Identifier: GPL-2.0-only
 -- Causes of replies, in the parts in which they are tested.
 use Rattle.std.specs.Prelude.{◌≡◌, ◌^◌, ◌≤◌, ℕ, List, length, slice_get, Option, Some, ⊤}
 use Rattle.std.specs.Option.{IsSomeAnd}

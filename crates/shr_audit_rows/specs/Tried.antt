@@ -1,3 +1,4 @@
+-- SPDX-License-Identifier: GPL-2.0-only
 -- The charges of commands in groups. No clause of the law cites this.
 use Rattle.std.specs.Prelude.{◌≡◌, ℕ, ◌+◌, ◌*◌, ◌^◌, ◌<◌, ◌==◌, nat_eq, nat_lt, cond, min, true, List, length, drop, filter, get_or, slice_get, Option, Some, None}
 use Rattle.std.specs.declared.hash.FoldHasher.{FoldHasher}

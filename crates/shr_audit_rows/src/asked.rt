@@ -1,3 +1,4 @@
+// SPDX-License-Identifier: GPL-2.0-only
 //! What replies say of declarations after so many entries of the journal of registrations.
 
 ghost use Rattle.std.specs.Prelude.{◌≡◌, ℕ, ◌<◌, ◌++◌, length, option_to_list, IfOk, OnOk};
@@ -13,7 +14,7 @@ use shr_base::scripts::{Command, Script};
 use shr_laws::report::Report;
 use std::alloc::Global;
 
-/// What a reply says of a declaration. Our own.
+/// What a reply says of a declaration.
 #[derive(Clone, Copy, Debug, PartialEq, Eq)]
 pub enum Said {
     /// It isn't live.
@@ -25,7 +26,7 @@ pub enum Said {
 }
 
 /// What it says of that after so many entries of the journal of registrations, of the declaration
-/// that its command names, if it names one. Our own.
+/// that its command names, if it names one.
 #[derive(Clone, Copy, Debug, PartialEq, Eq)]
 pub struct Asked {
     pub entry: u32,
@@ -100,7 +101,7 @@ fn add_worker(
     Ok(())
 }
 
-/// What all answers say of declarations. Our own.
+/// What all answers say of declarations.
 pub fn asked_of(alloc: Global, script: &Script, report: &Report) -> Result<Vec<Asked>, Memory>
     ensures { IfOk result (λ asked. AreAllSo script.now report.now asked.items) }
 {

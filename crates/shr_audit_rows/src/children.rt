@@ -1,3 +1,4 @@
+// SPDX-License-Identifier: GPL-2.0-only
 //! Children of a group that aren't done, after so many entries of the journal of the tree.
 
 ghost use Rattle.std.specs.Prelude.{◌≡◌, ◌<◌, ◌≤◌, ◌&&◌, ◌||◌, not, nat_lt, get_or, length, take, replicate, IfOk};
@@ -17,7 +18,7 @@ use shr_laws::report::Report;
 use std::alloc::Global;
 
 /// How many entries of the journal of the tree stand before the one by which each group was made,
-/// and before the one by which it was done; all where there is none. Our own.
+/// and before the one by which it was done; all where there is none.
 #[derive(Drop)]
 pub struct Moments {
     pub parents: Vec<u16>,
@@ -75,7 +76,7 @@ fn is_left(later: bool, made: bool, done: bool) -> bool
 }
 
 impl Moments {
-    /// Those of a script's groups in a report. Our own.
+    /// Those of a script's groups in a report.
     pub fn of(alloc: Global, script: &Script, report: &Report) -> Result<Moments, Memory>
         ensures { IfOk result (λ m. AreMoments script.now report.now m) }
     {
@@ -170,7 +171,7 @@ impl Moments {
     }
 
     /// Whether a child of a group is the lowest that is made and isn't done after so many entries,
-    /// which are there. Our own.
+    /// which are there.
     pub fn is_in_the_way(
         &self,
         script: &Script,

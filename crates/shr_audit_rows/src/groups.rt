@@ -1,3 +1,4 @@
+// SPDX-License-Identifier: GPL-2.0-only
 //! What a reply says of a group.
 
 ghost use Rattle.std.specs.Prelude.{◌≡◌};
@@ -12,7 +13,7 @@ use shr_audit_reasons::tree::{is_begin_of, is_done_of, is_made_of};
 use shr_base::scripts::Script;
 use shr_laws::report::Report;
 
-/// Whether an entry of the journal of the tree is the Begin of the group, if there is one. Our own.
+/// Whether an entry of the journal of the tree is the Begin of the group, if there is one.
 pub fn is_begin_there(report: &Report, group: Option<u16>, entry: u32) -> bool
     ensures { Decides result (IsSomeAnd group (λ g. StandsInTree report.now entry (Begin g))) }
 {
@@ -22,7 +23,7 @@ pub fn is_begin_there(report: &Report, group: Option<u16>, entry: u32) -> bool
     }
 }
 
-/// Whether it is its Done. Our own.
+/// Whether it is its Done.
 pub fn is_done_there(report: &Report, group: Option<u16>, entry: u32) -> bool
     ensures { Decides result (IsSomeAnd group (λ g. StandsInTree report.now entry (Done g))) }
 {
@@ -32,7 +33,7 @@ pub fn is_done_there(report: &Report, group: Option<u16>, entry: u32) -> bool
     }
 }
 
-/// Whether it is its Made. Our own.
+/// Whether it is its Made.
 pub fn is_made_there(report: &Report, group: Option<u16>, entry: u32) -> bool
     ensures { Decides result (IsSomeAnd group (λ g. StandsInTree report.now entry (Made g))) }
 {
@@ -42,7 +43,7 @@ pub fn is_made_there(report: &Report, group: Option<u16>, entry: u32) -> bool
     }
 }
 
-/// Whether a group isn't there at the start. Our own.
+/// Whether a group isn't there at the start.
 pub(crate) fn is_later(script: &Script, group: usize) -> bool
     ensures { result ≡ is_later (later_of script.now) group }
 {
@@ -55,7 +56,7 @@ pub(crate) fn is_later(script: &Script, group: usize) -> bool
     }
 }
 
-/// Whether a group is the one that a reply calls not made, and isn't there at the start. Our own.
+/// Whether a group is the one that a reply calls not made, and isn't there at the start.
 pub fn is_unmade(script: &Script, group: Option<u16>, named: u16) -> bool
     ensures { Decides result (IsSomeAnd group (λ g. IsUnmade script.now g named)) }
 {
@@ -65,7 +66,7 @@ pub fn is_unmade(script: &Script, group: Option<u16>, named: u16) -> bool
     }
 }
 
-/// Whether it is the root. Our own.
+/// Whether it is the root.
 pub fn is_root(group: Option<u16>) -> bool
     ensures { Decides result (IsSomeAnd group (λ g. g ≡ 0)) }
 {

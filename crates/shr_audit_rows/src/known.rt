@@ -1,3 +1,4 @@
+// SPDX-License-Identifier: GPL-2.0-only
 //! Whether what replies say of declarations is so.
 
 ghost use Rattle.std.specs.Prelude.{◌≡◌, ◌≤◌, ◌&&◌, not, true, length, take, IsPermutation, IfOk};
@@ -86,7 +87,7 @@ fn sorted(asked: Vec<Asked>) -> Result<Vec<Asked>, Memory>
 
 /// Whether what each reply says of a declaration is so: that it is live, or isn't, or that no id can
 /// be registered, after so many entries of the journal of registrations. It goes through these once,
-/// and through the ids for each such reply. Our own.
+/// and through the ids for each such reply.
 pub fn are_declarations_so(alloc: Global, script: &Script, report: &Report) -> Result<bool, Memory>
     ensures { IfOk result (λ b. Decides b (IsAskedSo script.now report.now)) }
 {

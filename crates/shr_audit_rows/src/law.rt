@@ -1,3 +1,4 @@
+// SPDX-License-Identifier: GPL-2.0-only
 //! The law on causes, field by field.
 
 ghost use Rattle.std.specs.Prelude.{IfOk};
@@ -61,7 +62,7 @@ fn are_entries_caused(alloc: Global, script: &Script, report: &Report) -> Result
 }
 
 /// Whether the law on causes holds of a report but for what its replies came from: walks, attempts,
-/// passes, entries, and freshness. `Memory` is want of memory alone. Our own.
+/// passes, entries, and freshness. `Memory` is want of memory alone.
 pub fn are_causes_lawful_but_replies(
     alloc: Global,
     script: &Script,

@@ -1,4 +1,5 @@
-//! The causes of the replies of a report, row by row. Our own.
+// SPDX-License-Identifier: GPL-2.0-only
+//! The causes of the replies of a report, row by row.
 #![tactic(auto)]
 
 pub mod asked;

@@ -1,3 +1,4 @@
+// SPDX-License-Identifier: GPL-2.0-only
 //! The group and the declaration that a command names.
 
 ghost use Rattle.std.specs.Prelude.{◌≡◌};
@@ -8,7 +9,7 @@ ghost use Rattle.shr_laws.specs.ReplyTable.{group_met};
 
 use shr_base::scripts::{Command, Script};
 
-/// The group that a command names. Our own.
+/// The group that a command names.
 pub fn group_named(command: &Command) -> Option<u16>
     ensures { result ≡ group_named command.now }
 {
@@ -23,7 +24,7 @@ pub fn group_named(command: &Command) -> Option<u16>
     }
 }
 
-/// The declaration that it names. Our own.
+/// The declaration that it names.
 pub fn decl_named(command: &Command) -> Option<u8>
     ensures { result ≡ decl_named command.now }
 {
@@ -50,7 +51,7 @@ fn parent_of(script: &Script, group: u16) -> u16
     }
 }
 
-/// The group that an answer to a command calls offline or not made. Our own.
+/// The group that an answer to a command calls offline or not made.
 pub fn group_met(script: &Script, command: &Command) -> Option<u16>
     ensures { result ≡ group_met script.now command.now }
 {

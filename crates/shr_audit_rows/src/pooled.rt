@@ -1,3 +1,4 @@
+// SPDX-License-Identifier: GPL-2.0-only
 //! Each id after so many entries of the journal of registrations.
 
 ghost use Rattle.std.specs.Prelude.{◌≡◌, ℕ, ◌+◌, ◌<◌, ◌≤◌, ◌^◌, ◌∷◌, [], ◌++◌, List, length, take, get_or, replicate, is_some, IfOk};
@@ -10,7 +11,7 @@ use shr_base::memory::Memory;
 use std::alloc::Global;
 
 /// Each id after so many entries of the journal of registrations: how many of them are of the id,
-/// and the declaration of the last that registered it. Our own.
+/// and the declaration of the last that registered it.
 #[derive(Drop)]
 pub struct Pooled {
     pub phases: Vec<u64>,
@@ -70,7 +71,7 @@ impl Pooled {
         })
     }
 
-    /// Each id before the first entry. Our own.
+    /// Each id before the first entry.
     pub fn start(alloc: Global) -> Result<Pooled, Memory>
         ensures stands { IfOk result (λ p. Stands [] p.phases.items p.decls.items) }
         ensures next { IfOk result (λ p. p.next ≡ 0) }
@@ -93,7 +94,7 @@ impl Pooled {
         self.phases[id] = phase;
     }
 
-    /// Goes on until so many entries. Our own.
+    /// Goes on until so many entries.
     pub fn advance(&mut self, pool: &[PoolEntry], until: usize)
         requires stands { Stands (take self.old.next pool.now) self.old.phases.items
             self.old.decls.items }
@@ -127,7 +128,7 @@ impl Pooled {
         phase % 3 == 0 && phase < 65533
     }
 
-    /// Whether one of so many ids is live with a declaration. Our own.
+    /// Whether one of so many ids is live with a declaration.
     pub fn is_live(&self, ids: u16, decl: u8) -> bool
         requires { AreSized self.now.phases.items self.now.decls.items }
         ensures { (es : List PoolEntry) → Stands es self.now.phases.items self.now.decls.items
@@ -141,7 +142,7 @@ impl Pooled {
         false
     }
 
-    /// Whether one of so many ids can be registered. Our own.
+    /// Whether one of so many ids can be registered.
     pub fn has_free(&self, ids: u16) -> bool
         requires { AreSized self.now.phases.items self.now.decls.items }
         ensures { (es : List PoolEntry) → Stands es self.now.phases.items self.now.decls.items

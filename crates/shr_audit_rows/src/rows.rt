@@ -1,3 +1,4 @@
+// SPDX-License-Identifier: GPL-2.0-only
 //! Replies, row by row, against what they came from.
 
 ghost use Rattle.std.specs.Prelude.{ℕ, ◌<◌, length, IfOk};
@@ -24,7 +25,7 @@ use shr_base::scripts::{Command, Script};
 use shr_laws::report::Report;
 use std::alloc::Global;
 
-/// What is noted once of a script and a report. Our own.
+/// What is noted once of a script and a report.
 #[derive(Drop)]
 pub struct Notes {
     pub counted: Counted,
@@ -33,7 +34,7 @@ pub struct Notes {
 }
 
 impl Notes {
-    /// Notes it. Our own.
+    /// Notes it.
     pub fn of(alloc: Global, script: &Script, report: &Report) -> Result<Notes, Memory>
         ensures { IfOk result (λ n. AreRowNotes script.now report.now n) }
     {
@@ -204,7 +205,6 @@ fn are_caused(script: &Script, report: &Report, notes: &Notes) -> bool
 
 /// Whether each answer to a command of the script has its cause in the report, but for those of an
 /// `unregister` that drained and of an `offline` that was done. `Memory` is want of memory alone.
-/// Our own.
 pub fn are_rows_caused_but_ends(
     alloc: Global,
     script: &Script,

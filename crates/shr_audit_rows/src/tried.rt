@@ -1,3 +1,4 @@
+// SPDX-License-Identifier: GPL-2.0-only
 //! The charges of commands in groups, for what an Over says of the last one.
 
 ghost use Rattle.std.specs.Prelude.{◌≡◌, ℕ, ◌+◌, ◌<◌, ◌^◌, ◌∷◌, [], ◌++◌, List, length, get_or, nat_eq, replicate, IfOk, OnOk};
@@ -17,7 +18,7 @@ use shr_laws::report::Report;
 use std::alloc::Global;
 use std::collections::HashMap;
 
-/// The charges of a command in a group: how many, 15 where there are more, and the last. Our own.
+/// The charges of a command in a group: how many, 15 where there are more, and the last.
 #[derive(Clone, Copy, Debug, PartialEq, Eq)]
 pub struct Tried {
     pub ups: u8,
@@ -26,7 +27,7 @@ pub struct Tried {
     pub last: UseStep,
 }
 
-/// Those of each command in each group. Our own.
+/// Those of each command in each group.
 #[derive(Drop)]
 pub struct Tries {
     pub tried: HashMap<u64, Tried>,
@@ -119,7 +120,7 @@ fn blank(alloc: Global, count: usize) -> Result<Tries, Memory>
     Ok(Tries { tried, counts })
 }
 
-/// The charges of each command in each group. Our own.
+/// The charges of each command in each group.
 pub fn tries_of(alloc: Global, report: &Report) -> Result<Tries, Memory>
     ensures { IfOk result (λ t. AreTries report.now.uses.items t.tried t.counts.items) }
 {
@@ -147,7 +148,7 @@ fn is_full(script: &Script, group: u16, usage: u32) -> bool
     }
 }
 
-/// What an Over says: the group that refused, its operation and the usage that it found. Our own.
+/// What an Over says: the group that refused, its operation and the usage that it found.
 #[derive(Clone, Copy, Debug, PartialEq, Eq)]
 pub struct Refused {
     pub group: u16,
@@ -189,7 +190,7 @@ fn are_fourteen(tried: Option<Tried>) -> bool
 }
 
 /// Whether the last of the charges of a put was refused as an Over says, and each of the others of
-/// its own group. Our own.
+/// its own group.
 pub fn is_over(
     script: &Script,
     report: &Report,

@@ -1,3 +1,4 @@
+// SPDX-License-Identifier: GPL-2.0-only
 //! Replies that tell of a counter that was used up.
 
 ghost use Rattle.std.specs.Prelude.{◌<◌, length};
@@ -15,7 +16,6 @@ use shr_base::scripts::{Command, Script};
 use shr_laws::report::Report;
 
 /// Whether what a command found used up was: the journal of its pool, or a counter of its worker.
-/// Our own.
 pub fn is_used_up(
     script: &Script,
     report: &Report,

@@ -1,3 +1,4 @@
+-- SPDX-License-Identifier: GPL-2.0-only
 -- Marks of groups on nodes, walk by walk.
 use Rattle.shr_audit_sweep.proofs.Common.{◌≡◌, ℕ, ◌+◌, ◌*◌, ◌<◌, ◌≤◌, Bool, true, false, cond, List, [], ◌∷◌, ◌++◌, length, get_or, take, Some, refl, sym, ap, subst, ◌∙◌, arith, ◌&&◌, ◌==◌, sum_by, Decides, length-set, Script, Sweep, WalkRecord, Report, parents_of, sweep_walks, EachItem, clash, AreMarked, IsGroupMarked, job_index, ◌-◌, set, drop, nat_lt, flat_map, append_assoc, drop_more, get_or-set_same, get_or-set_other, length-map, take-append-drop, take_all, take_more, IsSweepRight, all_sweep_walks, AreWalkedOnce, AreSweptOnce, IsSweptWithin, times_in}
 use Rattle.std.specs.List.{range_with_len}

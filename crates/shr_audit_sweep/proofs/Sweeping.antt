@@ -1,3 +1,4 @@
+-- SPDX-License-Identifier: GPL-2.0-only
 -- The walks that a worker made for the sweep, in its part.
 use Rattle.shr_audit_sweep.proofs.Common.{◌≡◌, ℕ, ◌<◌, ◌≤◌, Bool, true, false, cond, List, [], ◌∷◌, length, get_or, Some, refl, sym, ap, ◌∙◌, ◌==◌, ◌&&◌, slice_get, Decides, WorkerPart, Script, Sweep, WalkRecord, Report, IsSweepWalk, IsSwept, sweep_serial, sweep_walks, EachItem, clash, suc, Option, None, filter, is_some, not, commands_of, serial_of, walks_in, Adjacent, IsWorkerCommand, all_of, each_in}
 use Rattle.shr_base.specs.declared.replies.Answered.{Answered}

@@ -1,3 +1,4 @@
+-- SPDX-License-Identifier: GPL-2.0-only
 -- Parts of the law on sweeps. No public clause cites this.
 use Rattle.std.specs.Prelude.{◌≡◌, ℕ, ◌<◌, List, length, sum_by}
 use Rattle.std.specs.Option.{IsSomeAnd}

@@ -1,3 +1,4 @@
+// SPDX-License-Identifier: GPL-2.0-only
 //! The last answers of the workers.
 
 ghost use Rattle.std.specs.Prelude.{◌≡◌, ℕ, ◌<◌, length, option_copied};
@@ -55,7 +56,7 @@ fn is_answered(script: &Script, report: &Report, sweep: Sweep, worker: usize) ->
     }
 }
 
-/// Whether each worker of the script has, and it is. Our own.
+/// Whether each worker of the script has, and it is.
 pub(crate) fn are_answered(script: &Script, report: &Report, sweep: Sweep) -> bool
     requires { IsWellFormed report.now }
     ensures { Decides result (HaveSweepAnswers script.now report.now sweep) }
@@ -79,7 +80,7 @@ fn is_swept_out(script: &Script, report: &Report, worker: usize) -> bool
     }
 }
 
-/// Whether each worker says so. Our own.
+/// Whether each worker says so.
 pub(crate) fn are_swept_out(script: &Script, report: &Report) -> bool
     ensures { Decides result (AreSweptOut script.now report.now) }
 {

@@ -1,4 +1,5 @@
-//! Whether a sweep is lawful. Our own.
+// SPDX-License-Identifier: GPL-2.0-only
+//! Whether a sweep is lawful.
 #![tactic(auto)]
 
 pub mod answers;

@@ -1,3 +1,4 @@
+// SPDX-License-Identifier: GPL-2.0-only
 //! Which groups a sweep walked on which nodes.
 
 ghost use Rattle.std.specs.Prelude.{◌≡◌, ℕ, ◌+◌, ◌<◌, ◌*◌, ◌≤◌, ◌++◌, List, [], true, false, get_or, length, slice_set, IfOk, IsTrue};
@@ -128,7 +129,6 @@ fn are_marked(marks: &[bool], nodes: u8, groups: usize) -> bool
 
 /// Whether no group is walked twice on a node, and if `whole`, each is walked once, where each walk
 /// of the sweep is of a group and a node of the script. It keeps a byte for each group on each node.
-/// Our own.
 pub(crate) fn are_walked(
     alloc: Global,
     script: &Script,

@@ -1,3 +1,4 @@
+// SPDX-License-Identifier: GPL-2.0-only
 //! The law on sweeps.
 
 ghost use Rattle.std.specs.Prelude.{◌≤◌, length, IfOk};
@@ -31,8 +32,6 @@ fn is_right(alloc: Global, script: &Script, report: &Report, sweep: Sweep) -> Re
 /// tells its walks, no group is walked twice on a node, and each is walked once if every worker says
 /// that no job was left. It keeps a byte for each group on each node; want of that memory alone is
 /// an error.
-///
-/// Our own.
 pub fn is_sweep_lawful(alloc: Global, script: &Script, report: &Report) -> Result<bool, Memory>
     requires well { IsWellFormed report.now }
     requires few { length (parents_of script.now) ≤ 65536 }

@@ -1,3 +1,4 @@
+// SPDX-License-Identifier: GPL-2.0-only
 //! The walks that a worker made for the sweep.
 
 ghost use Rattle.std.specs.Prelude.{◌≡◌, ◌≤◌, length, sum_by};
@@ -14,7 +15,7 @@ use shr_base::scripts::{Script, Sweep};
 use shr_base::walks::{WalkAnswer, WalkRecord};
 use shr_laws::report::Report;
 
-/// How many commands a worker has; none past the last worker. Our own.
+/// How many commands a worker has; none past the last worker.
 pub(crate) fn count_commands(script: &Script, worker: usize) -> usize
     ensures { result ≡ length (commands_of script.now worker) }
 {
@@ -24,7 +25,7 @@ pub(crate) fn count_commands(script: &Script, worker: usize) -> usize
     }
 }
 
-/// The walks that a worker made for the sweep. Our own.
+/// The walks that a worker made for the sweep.
 pub(crate) fn sweep_walks<'a>(
     script: &Script,
     report: &'a Report,
@@ -51,7 +52,7 @@ fn is_sweep_walk(script: &Script, sweep: Sweep, walk: &WalkRecord) -> bool
         && walk.nofs == sweep.nofs
 }
 
-/// Whether each of these walks is. Our own.
+/// Whether each of these walks is.
 pub(crate) fn are_sweep_walks(script: &Script, sweep: Sweep, walks: &[WalkRecord]) -> bool
     ensures { Decides result (EachItem (IsSweepWalk script.now sweep) walks.now) }
 {
@@ -74,7 +75,7 @@ fn freed_told(answer: WalkAnswer) -> u64
     }
 }
 
-/// Whether these walks told that they freed so much together. Our own.
+/// Whether these walks told that they freed so much together.
 pub(crate) fn have_freed(walks: &[WalkRecord], freed: u64) -> bool
     ensures { Decides result
         (freed ≡ sum_by (λ (w : WalkRecord). freed_told w.answer) walks.now) }

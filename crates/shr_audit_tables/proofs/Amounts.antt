@@ -1,3 +1,4 @@
+-- SPDX-License-Identifier: GPL-2.0-only
 -- Printed words that stand by place, and places that no table has.
 use Rattle.shr_audit_tables.proofs.Common.{◌≡◌, ℕ, suc, ◌+◌, ◌<◌, ◌≤◌, ◌^◌, ◌⊎◌, inl, inr, Bool, true, false, cond, List, [], ◌∷◌, length, get_or, Some, refl, sym, subst, ◌∙◌, arith, ◌==◌, sum_by, AllByRecursion, AllAdjacentBelow, cases_lt, nat_tests, sum_by-cons, Place, PlaceAmount, is_place, amount_at, sum_at, IsAmountWell, deferred_key, IsNarrow, find, amount_in, IsNumbered, IsPlaceBefore}
 

@@ -1,3 +1,4 @@
+-- SPDX-License-Identifier: GPL-2.0-only
 -- The law on deferred words: what well formed gives of it, and its fields put together.
 use Rattle.shr_audit_tables.proofs.Common.{◌≡◌, ℕ, zero, suc, ◌+◌, ◌<◌, ◌≤◌, ◌⊎◌, inl, inr, List, [], ◌∷◌, length, get_or, Option, Some, None, refl, sym, ap, subst, ◌∙◌, arith, slice_get, AllByRecursion, AllAdjacentBelow, cases_lt, cases_order, slice_get_within, Place, Carry, PlaceAmount, WorkerPart, Script, Report, IsCarryRight, parents_of, IsAmountWell, IsWellFormed, EachItem, AreWordsRight, get_or_from_slice_get, IsDeferredLawful, carries_in, IsBefore, IsCarryBefore, below_of, unmapped}
 use Rattle.std.specs.List.Sorted.{IsNonDecreasingBy}

@@ -1,3 +1,4 @@
+-- SPDX-License-Identifier: GPL-2.0-only
 -- The numbers of lookups of an id, among those of all workers.
 use Rattle.shr_audit_tables.proofs.Common.{◌≡◌, ◌≢◌, ℕ, ◌+◌, ◌/◌, ◌%◌, ◌^◌, ◌<◌, ◌≤◌, ◌⊎◌, inl, inr, ⊎_elim, Bool, true, false, cond, List, [], ◌∷◌, ◌++◌, length, get_or, Option, Some, None, refl, sym, ap, subst, ◌∙◌, arith, ◌==◌, ◌&&◌, nat_lt, count_by, filter, filter_map, flat_map, slice_index, Decides, AllByRecursion, cons_option, cases_lt, nat_tests, Decides-like, get_or_past, flat_map-append, sum_by-cons, sum_by-append, slice_get-get_or, Answered, Attempt, WalkRecord, WorkerPart, number_of, Report, HasNumbers, IsPartNumbered, IsWalkNumbered, lookups_at, EachItem, AreDrawnOnce, IsDrawn, found_draws, answer_draws, tried_draws, attempt_draws, draw_key, part_draws, walk_draws, option_and_then, if◌then◌else◌, IsAnsweredNumbered, IsAttemptNumbered, IsFindNumbered, IsOutcomeNumbered}
 use Rattle.shr_base.specs.declared.replies.Found.{Found}

@@ -1,3 +1,4 @@
+-- SPDX-License-Identifier: GPL-2.0-only
 -- The lookups that were drawn settle with those that are wanted if and only if each number was drawn once.
 use Rattle.shr_audit_tables.proofs.Common.{◌≡◌, ◌≢◌, ℕ, zero, suc, ◌+◌, ◌/◌, ◌%◌, ◌^◌, ◌<◌, ◌≤◌, ◌⊎◌, inl, inr, Bool, true, false, cond, List, [], ◌∷◌, ◌++◌, length, get_or, map, take, refl, sym, ap, subst, ◌∙◌, arith, ◌↔◌, ◌==◌, nat_lt, count_by, filter, sum, sum_by, slice_index, Decides, AllByRecursion, range_with_len, cases_lt, cases_order, nat_tests, take_all, sum_by-cons, sum_by-append, sum_by_more, slice_get-get_or, EachItem, Move, sum_up_at, sum_down_at, IsSettled, AreDrawnOnce, draw_key, drawn_move, wanted_move, wanted_from, eqb, ◌||◌, list_any, length-map, length-filter, count_by-le-length}
 use Rattle.std.proofs.lemmas.Map.Steps.{le-length_from_below}

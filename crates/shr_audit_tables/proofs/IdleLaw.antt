@@ -1,3 +1,4 @@
+-- SPDX-License-Identifier: GPL-2.0-only
 -- The lists of idle ids are empty if those that are printed are.
 use Rattle.shr_audit_tables.proofs.Common.{◌≡◌, ℕ, suc, ◌%◌, ◌<◌, ◌≤◌, ◌⊎◌, inl, inr, Bool, false, List, [], ◌∷◌, length, get_or, map, Some, None, refl, sym, ap, subst, ◌∙◌, arith, ne_eqb, ◌==◌, slice_get, Decides, cases_lt, Decides-like, slice_get-get_or, Place, PoolEntry, PlaceEnd, phase_of, Report, EachItem, IdState, AreStates, AreIdleEmpty, IsEmptyIfIdle, IsIdleIn, NonePast, journal_of, journals_of, IsEmptyAt}
 use Rattle.shr_base.specs.declared.objects.Object.{Object}

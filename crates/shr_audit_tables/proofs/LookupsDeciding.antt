@@ -1,3 +1,4 @@
+-- SPDX-License-Identifier: GPL-2.0-only
 -- What is tested of a found cache, against what the law says of it.
 use Rattle.shr_audit_tables.proofs.LookupsCommon.{◌≡◌, ℕ, ◌≤◌, Bool, length, Some, refl, sym, ap, subst, ◌∙◌, Decides, Report, true, false, cond, take, drop, Option, None, IsLiveRight}
 use Rattle.shr_base.specs.declared.replies.Found.{Found}

@@ -1,3 +1,4 @@
+-- SPDX-License-Identifier: GPL-2.0-only
 -- The law on lookups, from its fields.
 use Rattle.shr_audit_tables.proofs.LookupsCommon.{◌≡◌, ℕ, ◌≤◌, Bool, List, length, subst, ◌∙◌, Decides, Script, Report, IsDrawn, AreFoundRight, AreMetRight, parents_of}
 use Rattle.shr_laws.specs.Lookups.{AreLookupsLawful}

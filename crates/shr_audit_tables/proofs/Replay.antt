@@ -1,3 +1,4 @@
+-- SPDX-License-Identifier: GPL-2.0-only
 -- The journal of registrations, entry by entry, and how it begins.
 use Rattle.shr_audit_tables.proofs.Common.{◌≡◌, ℕ, zero, suc, ◌+◌, ◌%◌, ◌<◌, ◌≤◌, ◌⊎◌, inl, inr, Bool, true, false, cond, List, [], ◌∷◌, ◌++◌, length, get_or, take, Option, Some, None, refl, sym, ap, subst, ◌∙◌, arith, filter_map, slice_get, cons_option, cases_lt, nat_tests, take_more, length-take-le, slice_get-get_or, slice_get_within, PoolEntry, Registered, Script, is_live, last_number, phase_of, IsNextPool, IsPoolJournal, Report, lookups_at, IdState, AreStates, with_pool_entry, MayRegister, AreBlankStates, AreStatesOf, AreLastReached, on_from, OpensWith, IsPoolLawful, enumerate_from, length_push, decls_on}
 use Rattle.shr_base.specs.declared.scripts.CacheDecl.{CacheDecl}

@@ -1,3 +1,4 @@
+-- SPDX-License-Identifier: GPL-2.0-only
 -- Lists that a loop adds to, item by item.
 use Rattle.shr_audit_tables.proofs.Common.{◌≡◌, ℕ, suc, ◌+◌, ◌<◌, ◌≤◌, List, [], ◌∷◌, ◌++◌, length, get_or, map, take, sym, ap, ◌∙◌, arith, range_with_len, append_assoc, take_more, take_all, length-take-le, Move, draw_key, wanted_move, wanted_from, flat_all, map_end, append-nil, added_to}
 use Rattle.std.proofs.lemmas.List.FromFn.{map-range_with_len_more}

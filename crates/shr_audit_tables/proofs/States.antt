@@ -1,3 +1,4 @@
+-- SPDX-License-Identifier: GPL-2.0-only
 -- The states of ids after one entry more of the journal of registrations, and when it may follow.
 use Rattle.shr_audit_tables.proofs.Common.{◌≡◌, ◌≢◌, ℕ, zero, suc, ◌+◌, ◌%◌, ◌<◌, ◌≤◌, ◌⊎◌, inl, inr, ⊎_elim, Bool, true, false, cond, List, [], ◌∷◌, ◌++◌, length, get_or, take, Option, Some, None, refl, sym, ap, subst, ◌∙◌, arith, ne_eqb, ◌==◌, ◌&&◌, slice_get, Decides, cases_lt, nat_tests, slice_get-get_or, slice_get_within, PoolEntry, Registered, Unregistered, Idle, last_number, is_live, IsNextPool, IsPoolJournal, IdState, state_of_id, AreStates, state_with, with_pool_entry, HasLive, IsFreeNow, IsLowestFree, MayRegister, set, cases_eq, Decides-below_or, Decides-eqb, Decides-and, length-set, get_or-set_same, get_or-set_other, slice_get_past, put_state, some_at}
 use lib.ListN.{get_elem?}

@@ -1,3 +1,4 @@
+-- SPDX-License-Identifier: GPL-2.0-only
 -- Steps of loops, and lists of lists gone through one by one.
 use Rattle.shr_audit_tables.proofs.Common.{◌≡◌, ℕ, suc, ◌+◌, ◌<◌, Bool, false, List, [], ◌∷◌, ◌++◌, length, get_or, take, refl, sym, ap, subst, ◌∙◌, flat_map, sum_by, Decides, AllByRecursion, sum_by_more, EachItem, each_in, all_of, all_front, all_right}
 use Rattle.shr_model.proofs.BagLaws.{each_append}

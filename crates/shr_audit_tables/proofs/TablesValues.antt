@@ -1,3 +1,4 @@
+-- SPDX-License-Identifier: GPL-2.0-only
 -- What the laws on tables are tested by, at known values.
 use Rattle.shr_audit_tables.proofs.Common.{◌≡◌, ℕ, zero, suc, ◌%◌, false, List, [], ◌∷◌, true, Option, Some, None, refl, sym, ap, arith, flat_map, Place, WorkerPart, PoolEntry, Registered, Unregistered, Idle, number_of, parents_of, IdState, given_by_worker, taken_by, AreWordsRight, state_of_id, state_with, with_pool_entry, IsStateLiveAs, HasLive, IsFreeNow, NoneFree, IsLowestFree, MayRegister, AreLastReached, AreBlankStates, on_from, OpensWith, IsPoolLawful, AreDrawnOnce, IsDrawn, found_draws, answer_draws, tried_draws, attempt_draws, draw_key, drawn_move, part_draws, walk_draws, wanted_move, wanted_from, AreIdleEmpty, IsIdleIn, NonePast}
 use Rattle.shr_base.specs.declared.walks.Outcome.TheVariants as outcome

@@ -1,3 +1,4 @@
+-- SPDX-License-Identifier: GPL-2.0-only
 -- The moves of all workers settle if and only if each printed word is right.
 use Rattle.shr_audit_tables.proofs.Common.{◌≡◌, ℕ, ◌+◌, ◌<◌, ◌^◌, ◌⊎◌, inl, inr, ⊎_elim, Bool, true, false, List, [], ◌∷◌, length, get_or, refl, sym, ap, subst, ◌∙◌, arith, ◌↔◌, filter, filter_map, flat_map, sum_by, Decides, AllByRecursion, cases_lt, nat_tests, Decides-like, get_or_past, flat_map-append, sum_by-cons, sum_by-append, slice_get-get_or, Place, Attempt, Carry, WalkRecord, PlaceAmount, WorkerPart, amount_at, sum_at, is_place, Report, HasNumbers, IsPartNumbered, IsWalkNumbered, IsWellFormed, EachItem, Move, sum_up_at, sum_down_at, IsSettled, deferred_key, IsNarrow, GainsAtEach, given_by_worker, taken_by, AreWordsRight, pass_of, deferred_word, IsCarryNumbered, IsAmountNumbered, carried_to, carried_from}
 use Rattle.shr_base.specs.declared.walks.PassRecord.{PassRecord}

@@ -1,3 +1,4 @@
+-- SPDX-License-Identifier: GPL-2.0-only
 -- Deferred words, worker by worker.
 use Rattle.std.specs.Prelude.{◌≡◌, ℕ, List}
 use Rattle.shr_base.specs.declared.places.Place.{Place}

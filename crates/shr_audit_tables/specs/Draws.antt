@@ -1,3 +1,4 @@
+-- SPDX-License-Identifier: GPL-2.0-only
 -- The numbers of lookups as they were drawn, each by one number with its id.
 use Rattle.std.specs.Prelude.{◌≡◌, ℕ, ◌+◌, ◌*◌, ◌<◌, ◌^◌, ◌==◌, nat_lt, cond, List, [], ◌∷◌, ◌++◌, map, flat_map, count_by, slice_index, Option, Some, None}
 use Rattle.std.specs.List.{range_with_len}

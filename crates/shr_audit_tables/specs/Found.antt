@@ -1,3 +1,4 @@
+-- SPDX-License-Identifier: GPL-2.0-only
 -- What commands found, in the form in which it is tested.
 use Rattle.std.specs.Prelude.{◌≡◌, ℕ, ◌≤◌, true, Option, Some, None}
 use Rattle.shr_base.specs.declared.replies.Answered.{Answered}

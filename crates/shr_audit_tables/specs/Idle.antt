@@ -1,3 +1,4 @@
+-- SPDX-License-Identifier: GPL-2.0-only
 -- Ids that are idle at the end, and what their lists have left.
 use Rattle.std.specs.Prelude.{◌≡◌, ℕ, ◌%◌, ◌≤◌, List, [], slice_get, Some}
 use Rattle.shr_base.specs.declared.places.Place.{Place}

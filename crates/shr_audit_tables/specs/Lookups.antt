@@ -1,3 +1,4 @@
+-- SPDX-License-Identifier: GPL-2.0-only
 -- The law on lookups, in the form in which its fields are tested.
 use Rattle.std.specs.Prelude.{◌≡◌, ℕ, ◌+◌, ◌≤◌, true, cond, List, [], ◌∷◌, length, slice_get, Some}
 use Rattle.shr_base.specs.declared.journals.PoolEntry.{PoolEntry}

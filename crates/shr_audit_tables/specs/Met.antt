@@ -1,3 +1,4 @@
+-- SPDX-License-Identifier: GPL-2.0-only
 -- What attempts met, in the form in which it is tested.
 use Rattle.std.specs.Prelude.{◌≡◌, ℕ, Some, is_some}
 use Rattle.shr_base.specs.Walks.{Attempt}

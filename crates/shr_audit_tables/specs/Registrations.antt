@@ -1,3 +1,4 @@
+-- SPDX-License-Identifier: GPL-2.0-only
 -- The journal of registrations, by what it says of each id.
 use Rattle.std.specs.Prelude.{◌≡◌, ℕ, ◌+◌, ◌%◌, ◌<◌, ◌≤◌, List, length, slice_get, slice_index, slice_set, Option, Some, None}
 use Rattle.shr_base.specs.declared.journals.PoolEntry.{PoolEntry}

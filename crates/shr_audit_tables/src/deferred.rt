@@ -1,3 +1,4 @@
+// SPDX-License-Identifier: GPL-2.0-only
 //! The law on deferred words: each is what passes and carries gave less what they took.
 
 ghost use Rattle.std.specs.Prelude.{◌≡◌, ◌<◌, ◌^◌, OnOk, IfOk, sum_by};
@@ -146,7 +147,7 @@ fn are_all_right(script: &Script, report: &Report, parts: &[WorkerPart]) -> bool
 
 /// Whether each deferred word of a report is what passes and carries gave less what they took,
 /// modulo 2^64, and each carry is of an `offline` that carried it. `parents` are those of the
-/// script's groups, the root first. It sorts what passes and carries moved, once. Our own.
+/// script's groups, the root first. It sorts what passes and carries moved, once.
 pub fn is_deferred_lawful(
     alloc: Global,
     parents: &[u16],

@@ -1,3 +1,4 @@
+// SPDX-License-Identifier: GPL-2.0-only
 //! The numbers of lookups: whether those of each id are 0, 1 and so on, each drawn once.
 
 ghost use Rattle.std.specs.Prelude.{◌≡◌, ◌++◌, ◌∷◌, [], ◌+◌, ◌*◌, ◌<◌, ◌≤◌, ◌^◌, map, flat_map, sum, length, IfOk, OnOk};
@@ -189,7 +190,7 @@ fn are_drawn_once(alloc: Global, keys: &[u64], lookups: &[u32]) -> Result<bool, 
 }
 
 /// Whether the numbers of the lookups that found caches, and of those that walks made, are for each
-/// id those from 0 up to its lookups, each once. It sorts all lookups once. Our own.
+/// id those from 0 up to its lookups, each once. It sorts all lookups once.
 pub fn is_drawn(alloc: Global, report: &Report) -> Result<bool, Memory>
     requires well { IsWellFormed report.now }
     requires numbers { HasNumbers report.now }

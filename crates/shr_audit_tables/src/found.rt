@@ -1,3 +1,4 @@
+// SPDX-License-Identifier: GPL-2.0-only
 //! What commands found.
 
 ghost use Rattle.std.specs.Prelude.{◌≡◌, ℕ, Some, slice_get, length, option_copied, IfOk};
@@ -156,7 +157,7 @@ fn are_parts_right(script: &Script, report: &Report, lives: &Lives, parts: &[Wor
 
 /// Whether each cache that a command found was live with its declaration, by the registration in
 /// which the number of the lookup lies, in a report whose journal of registrations is one. `Memory`
-/// is want of it alone. Our own.
+/// is want of it alone.
 pub fn are_found_right(alloc: Global, script: &Script, report: &Report) -> Result<bool, Memory>
     requires { IsPoolJournal script.now.ids (length script.now.caches.items)
         report.now.pool.items }

@@ -1,3 +1,4 @@
+// SPDX-License-Identifier: GPL-2.0-only
 //! Ids that are idle at the end: whether their lists are empty.
 
 ghost use Rattle.std.specs.Prelude.{length};
@@ -59,7 +60,7 @@ fn are_empty_if_idle(case: &Case, report: &Report, states: &[IdState], ends: &[P
 }
 
 /// Whether the lists of each id that is idle at the end are empty. `states` are those of the ids at
-/// the end. Our own.
+/// the end.
 pub fn are_idle_empty(case: &Case, report: &Report, states: &[IdState]) -> bool
     requires replay { IsReplayOf report.now case.now }
     requires states { AreStates report.now.pool.items states.now }

@@ -1,6 +1,5 @@
-//! The laws of a report on its tables, each decided both ways. Our own.
-//!
-//! What the lookups of a report met, against its journal of registrations. Our own.
+// SPDX-License-Identifier: GPL-2.0-only
+//! The laws of a report on its tables, each decided both ways: deferred words, and what lookups met.
 #![tactic(auto)]
 
 pub mod deferred;

@@ -1,3 +1,4 @@
+// SPDX-License-Identifier: GPL-2.0-only
 //! The law on lookups: registrations follow each other as they may, and each lookup met what its
 //! number says.
 
@@ -67,7 +68,6 @@ fn opens(on: &[usize], pool: &[PoolEntry]) -> bool
 
 /// What the journal of registrations says of each id, or `None` if it isn't one, doesn't begin with
 /// the caches that are `on`, or begins the registration that an id is in above the id's lookups.
-/// Our own.
 pub fn lawful_pool(
     alloc: Global,
     script: &Script,

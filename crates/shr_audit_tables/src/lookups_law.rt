@@ -1,3 +1,4 @@
+// SPDX-License-Identifier: GPL-2.0-only
 //! The law on lookups.
 
 ghost use Rattle.std.specs.Prelude.{IfOk};
@@ -20,7 +21,7 @@ use std::alloc::Global;
 
 /// Whether registrations follow each other as they may, and each lookup met what its number says,
 /// in a well formed report whose numbers have the ranges of their types. `case` is of the script and
-/// the report. `Memory` is want of it alone. Our own.
+/// the report. `Memory` is want of it alone.
 pub fn are_lookups_lawful(
     alloc: Global,
     script: &Script,

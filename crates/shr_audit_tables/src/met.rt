@@ -1,3 +1,4 @@
+// SPDX-License-Identifier: GPL-2.0-only
 //! What attempts met.
 
 ghost use Rattle.std.specs.Prelude.{◌≡◌, ℕ, Some, is_some, slice_get, IfOk};
@@ -134,7 +135,7 @@ fn are_parts_right(report: &Report, met: &Met, parts: &[WorkerPart]) -> bool
 }
 
 /// Whether each attempt that made a lookup was held if and only if the lookup's number lies in a
-/// registration of its id. `Memory` is want of it alone. Our own.
+/// registration of its id. `Memory` is want of it alone.
 pub fn are_met_right(alloc: Global, report: &Report) -> Result<bool, Memory>
     ensures { IfOk result (λ b. Decides b (AreMetRight report.now)) }
 {

@@ -1,3 +1,4 @@
+// SPDX-License-Identifier: GPL-2.0-only
 //! The journal of registrations: whether it is one, and what it says of each id.
 
 ghost use Rattle.std.specs.Prelude.{◌≡◌, ℕ, ◌-◌, ◌%◌, ◌<◌, ◌≤◌, ◌^◌, [], Some, slice_get, length, vec_len, IfOk, IfSome, IfNone};
@@ -11,7 +12,7 @@ use shr_base::journals::PoolEntry;
 use shr_base::memory::Memory;
 use std::alloc::Global;
 
-/// What the journal of registrations says of an id. Our own.
+/// What the journal of registrations says of an id.
 #[derive(Clone, Copy, Debug, PartialEq, Eq)]
 pub struct IdState {
     /// How many entries it has: modulo 3, 0 is idle, 1 is live, 2 is dying.
@@ -160,7 +161,7 @@ fn first_states(alloc: Global, ids: u16) -> Result<Vec<IdState>, Memory>
 }
 
 /// What a journal of registrations says of each of so many ids, or `None` if it isn't one for these
-/// and for so many declarations. For each entry it goes through all ids. Our own.
+/// and for so many declarations. For each entry it goes through all ids.
 pub fn replay_pool(
     alloc: Global,
     ids: u16,
@@ -181,7 +182,7 @@ pub fn replay_pool(
     Ok(Some(states))
 }
 
-/// Whether the registration that an id is in began at or below the id's lookups. Our own.
+/// Whether the registration that an id is in began at or below the id's lookups.
 pub fn are_last_reached(states: &[IdState], lookups: &[u32]) -> bool
     requires { length lookups.now ≡ length states.now }
     ensures { Decides result (AreLastReached states.now lookups.now) }

@@ -1,3 +1,4 @@
+-- SPDX-License-Identifier: GPL-2.0-only
 -- The names that the proofs of this crate cite most, passed on from one place. Declares nothing.
 pub use Rattle.std.proofs.Common.{Bool, Global, List, None, Option, Some, [], ap, append_assoc, arith, drop, false, flat_map, length, map, refl, subst, suc, sym, take, true, zero, ℕ, ◌%◌, ◌++◌, ◌+◌, ◌-◌, ◌<◌, ◌^◌, ◌∙◌, ◌∷◌, ◌≡◌, ◌≢◌, ◌≤◌, ◌⊎◌}
 pub use Rattle.std.proofs.lemmas.List.{append-nil, length-append, length-map, length-replicate, map-append, replicate-append-replicate, take-append-drop}

@@ -1,3 +1,4 @@
+-- SPDX-License-Identifier: GPL-2.0-only
 -- What drafts say, at known lines.
 use Rattle.shr_audit_text.proofs.Common.{◌≡◌, ℕ, ◌+◌, [], ◌∷◌, None, refl, arith, codes, Report, kept, no_part, padded, with_reply, nothing_read}
 use Rattle.shr_base.specs.declared.replies.Reply.TheVariants as reply

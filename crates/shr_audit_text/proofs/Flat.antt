@@ -1,3 +1,4 @@
+-- SPDX-License-Identifier: GPL-2.0-only
 -- The sections whose lines stand one behind another: the head, the journals of registrations and of the tree, and the tables.
 use Rattle.shr_audit_text.proofs.Common.{◌≡◌, ℕ, ◌<◌, ◌^◌, true, List, [], ◌∷◌, ◌++◌, flat_map, Some, refl, codes, AllByRecursion, PlaceAmount, PlaceEnd, UnitsEnd, WorkerPart, Report, line, numbered, numeral, numbered_group_line, numbered_cache_line, units_name_line, pool_entry_line, tree_line, bit_line, deferred_line, pool_deferred_line, use_line, lookups_line, totals, read_amount, IsBitWord, IsMapNumbered, IsAmountNumbered, IsPrintable, Printed, line_kind, kept, Said, ◌⊎◌, Totals, read_group, read_cache, read_tree, read_bit, read_use, read_lookups, read_version, read_size, read_total, read_pool_amount, IsPoolNumbered, IsTreeNumbered, IsShort, IsCountNumber, IsUseNumbered, printed_group, printed_cache, printed_tree, printed_bit, printed_deferred, printed_use, printed_lookups, printed_version, printed_size, printed_total, printed}
 use Rattle.shr_model.specs.Pieces.{cut, pieces}

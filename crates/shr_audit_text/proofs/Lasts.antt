@@ -1,3 +1,4 @@
+-- SPDX-License-Identifier: GPL-2.0-only
 -- The last of some.
 use Rattle.shr_audit_text.proofs.Common.{◌≡◌, ℕ, ◌+◌, ◌-◌, ◌%◌, ◌^◌, List, [], ◌∷◌, ◌++◌, length, refl, sym, ap, ◌∙◌, append_assoc, arith, replicate, map, append-nil, replicate-append-replicate, length-append, Kept, WorkerPart, Serial, WalkRecord, MapSeen, Attempt, PlainTry, PlainWalk, WalkDraft, PlainDraft, PartDraft, kept, no_part, padded, drafted_part, drafted_parts, drafted_walk, drafted_walks, drafted_plain, plains_of, last_command, walk_begun, plain_begun, length-replicate, map-append, length-map, Global}
 use Rattle.std.specs.declared.vec.Vec.{Vec}

@@ -1,3 +1,4 @@
+-- SPDX-License-Identifier: GPL-2.0-only
 -- Lines lead from what was read before them to what is read with them.
 use Rattle.shr_audit_text.proofs.Common.{◌≡◌, ℕ, ◌+◌, true, List, [], ◌∷◌, ◌++◌, flat_map, Option, Some, refl, sym, ap, subst, ◌∙◌, append_assoc, AllByRecursion, append-nil, cut, Report, line, Printed, Said, line_kind, read_line, with_said, Says, option_map, list_all, flat_numbered, said_of, IsSaidNumbered}
 use Rattle.shr_model.specs.Pieces.{pieces}

@@ -1,3 +1,4 @@
+-- SPDX-License-Identifier: GPL-2.0-only
 mod Onto
 mod ReaderValues
 mod Common

@@ -1,3 +1,4 @@
+-- SPDX-License-Identifier: GPL-2.0-only
 -- A node more at the head of objects at rest.
 use Rattle.shr_audit_text.proofs.Common.{◌≡◌, ℕ, suc, ◌+◌, List, [], ◌∷◌, ◌++◌, length, append_assoc, Option, Some, None, refl, sym, ap, ◌∙◌, arith, get, slab_len, Updates, Object, objects_from, ◌≢◌, zero, Slab}
 use Rattle.shr_base.specs.declared.items.Node.{Node}

@@ -1,3 +1,4 @@
+-- SPDX-License-Identifier: GPL-2.0-only
 -- The lines of a list lead to it.
 use Rattle.shr_audit_text.proofs.Common.{◌≡◌, true, false, List, [], ◌∷◌, ◌++◌, flat_map, Some, refl, subst, codes, AllByRecursion, Kept, Object, Entry, PlaceEnd, PlainEntry, UnitsEnd, WorkerPart, line, place_lines, units_lines, IsPlaceWell, IsListNumbered, AreUnitsNumbered, all_both, line_kind, kept, with_more, IsTightList, AreTightUnits, ℕ, ap, entry_line, item_line, plain_entry_line, read_list, read_entry, read_item, read_plain_entry, read_units, HasWords, IsSpelled, IsNumbered, IsEntryNumbered, IsObjectNumbered, IsPlainEntryNumbered, printed_list, printed_entry, printed_item}
 use Rattle.shr_model.specs.Pieces.{cut, pieces}

@@ -1,3 +1,4 @@
+-- SPDX-License-Identifier: GPL-2.0-only
 -- What readers answer to, at known words and lines.
 use Rattle.std.proofs.Common.{◌≡◌, ℕ, ◌<◌, ◌^◌, [], ◌∷◌, Some, None, true, false, refl, arith}
 use Rattle.std.specs.Prelude.{codes, negsuc}

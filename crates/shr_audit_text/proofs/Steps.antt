@@ -1,3 +1,4 @@
+-- SPDX-License-Identifier: GPL-2.0-only
 -- One line more of a text, and the last.
 use Rattle.shr_audit_text.proofs.Common.{◌≡◌, ℕ, suc, ◌+◌, ◌-◌, ◌<◌, List, [], ◌∷◌, length, take, drop, true, false, Option, Some, None, refl, ap, subst, arith, cut, prefix_len, Report, Said, read_line, IsReadOf, with_said, Says, Bool, ◌==◌}
 use Rattle.shr_model.specs.Pieces.{pieces, differs}

@@ -1,3 +1,4 @@
+-- SPDX-License-Identifier: GPL-2.0-only
 -- What a draft says has no room to spare.
 use Rattle.shr_audit_text.proofs.Common.{List, [], ◌∷◌, refl, map, AllByRecursion, WalkDraft, PlainDraft, PartDraft, drafted_walk, drafted_plain, drafted_part, list_of, drafted_pool, drafted_walks, plains_of, drafted_parts, drafted_report, IsTightWalk, IsTightPlain, IsTightPart, IsTightList, AreTightUnits, IsTightReport, lists_of, pools_of}
 use Rattle.shr_audit_text.specs.declared.lists.ListDraft.{ListDraft}

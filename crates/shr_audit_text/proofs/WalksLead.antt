@@ -1,3 +1,4 @@
+-- SPDX-License-Identifier: GPL-2.0-only
 -- The lines of a walk, and of a carry, lead to it.
 use Rattle.shr_audit_text.proofs.Common.{◌≡◌, ℕ, ◌-◌, ◌<◌, ◌%◌, ◌^◌, List, [], ◌∷◌, ◌++◌, length, take, drop, flat_map, refl, sym, ap, subst, ◌∙◌, append_assoc, arith, AllByRecursion, prefix_len, append-nil, take-append-drop, length-append, Kept, Serial, Answered, Attempt, MapSeen, WalkRecord, Carry, PlainTry, PlainWalk, Isolation, WorkerPart, Report, numbered, walk_lines, carry_line, plain_lines, isolation_line, read_amount, IsBitWord, IsWalkNumbered, IsCarryNumbered, IsIsolationNumbered, IsPlainNumbered, all_both, kept, with_more, with_last, last_changed, last_command, walk_begun, isolated, plain_begun, passed_walk, IsTightWalk, IsTightPlain, read_attempt, read_map, read_walk, IsSeenNumbered, IsAttemptNumbered, IsTryNumbered, printed_attempt, printed_map, printed_walk, walk_line, amount_of, printed_carry, all_taken, with_walk, with_carry, with_isolation, with_plain, plain_head_of, isolation_head_of, read_isolation, read_pass_line, read_plain}
 use Rattle.shr_model.specs.Pieces.{cut, pieces}

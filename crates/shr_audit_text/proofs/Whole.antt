@@ -1,3 +1,4 @@
+-- SPDX-License-Identifier: GPL-2.0-only
 -- The lines of a report's text are read as that report.
 use Rattle.shr_audit_text.proofs.Common.{◌≡◌, ℕ, ◌+◌, ◌^◌, List, [], ◌∷◌, ◌++◌, length, flat_map, refl, sym, subst, ◌∙◌, append_assoc, ◌≤◌, append-nil, codes, AllByRecursion, WorkerPart, PlaceEnd, Report, line, numbered, numeral, numbered_group_line, numbered_cache_line, units_name_line, pool_entry_line, tree_line, worker_lines, place_lines, units_lines, bit_line, deferred_line, pool_deferred_line, use_line, lookups_line, totals, IsPlaceWell, IsPartWell, IsPartNumbered, IsListNumbered, IsMapNumbered, AreUnitsNumbered, IsAmountNumbered, IsPrintable, all_both, nothing_read, IsTightPart, IsTightList, AreTightUnits, IsTightReport, PlaceAmount, UnitsEnd, IsWellFormed, IsPoolAmountWell, HasNumbers}
 use Rattle.shr_model.specs.Pieces.{cut, pieces}

@@ -1,3 +1,4 @@
+-- SPDX-License-Identifier: GPL-2.0-only
 -- The lines of the workers lead to what they did.
 use Rattle.shr_audit_text.proofs.Common.{◌≡◌, ℕ, suc, ◌+◌, ◌<◌, ◌≤◌, ◌^◌, List, [], ◌∷◌, ◌++◌, length, take, drop, flat_map, Option, Some, None, refl, sym, ap, subst, ◌∙◌, append_assoc, arith, codes, replicate, AllByRecursion, prefix_len, append-nil, take-append-drop, length-append, replicate-append-replicate, Answered, WalkRecord, Carry, PlainWalk, Isolation, WorkerPart, Report, line, numeral, walk_lines, carry_line, plain_lines, isolation_line, worker_lines, IsPartWell, IsWalkNumbered, IsCarryNumbered, IsIsolationNumbered, IsPlainNumbered, IsPartNumbered, with_more, with_last, last_changed, no_part, padded, with_reply, IsTightPart, IsTightWalk, IsTightPlain, read_reply_line, read_found, LendsWord, IsWalkWell, IsAnsweredNumbered, IsFindNumbered, IsReplyNumbered, printed_reply, printed_found, with_found}
 use Rattle.shr_model.specs.Pieces.{cut, pieces}

@@ -1,3 +1,4 @@
+-- SPDX-License-Identifier: GPL-2.0-only
 -- The kinds of answers, by their first words, in the order in which they are asked.
 use Rattle.std.specs.Prelude.{◌≡◌, ℕ, false, bytes_eq, codes, List, [], ◌∷◌, ◌++◌}
 

@@ -1,3 +1,4 @@
+-- SPDX-License-Identifier: GPL-2.0-only
 -- What a reader finds.
 use Rattle.std.specs.Prelude.{◌≡◌, Option, Some, None}
 

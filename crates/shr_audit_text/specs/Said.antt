@@ -1,3 +1,4 @@
+-- SPDX-License-Identifier: GPL-2.0-only
 -- What a line of a report says: its kind by its first word, and the value by the words behind that.
 use Rattle.std.specs.Prelude.{◌≡◌, ℕ, ◌<◌, ◌^◌, Bool, ◌||◌, bytes_eq, codes, if◌then◌else◌, List, Option, Some, None, option_map, []}
 use Rattle.shr_model.specs.PieceParts.{left}

@@ -1,3 +1,4 @@
+// SPDX-License-Identifier: GPL-2.0-only
 //! A report as far as it was read.
 
 ghost use Rattle.std.specs.Prelude.{◌≡◌, IfOk};
@@ -18,7 +19,7 @@ use shr_base::memory::Memory;
 use shr_base::text::Text;
 use std::alloc::Global;
 
-/// A report as far as its lines were read, whatever they were and in whatever order. Our own.
+/// A report as far as its lines were read, whatever they were and in whatever order.
 #[derive(Drop)]
 pub struct Draft {
     alloc: Global,
@@ -44,7 +45,7 @@ pub struct Draft {
 }
 
 impl Draft {
-    /// A report of which nothing was read. It takes no memory. Our own.
+    /// A report of which nothing was read. It takes no memory.
     pub fn new(alloc: Global) -> Draft
         ensures { drafted_report result ≡ nothing_read }
     {
@@ -72,7 +73,7 @@ impl Draft {
         }
     }
 
-    /// Another line. Want of memory alone is an error, after which the draft says nothing. Our own.
+    /// Another line. Want of memory alone is an error, after which the draft says nothing.
     pub fn take(&mut self, said: Said) -> Result<(), Memory>
         ensures { IfOk result (λ _. drafted_report self.new
             ≡ with_said said (drafted_report self.old)) }

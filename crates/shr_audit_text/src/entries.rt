@@ -1,3 +1,4 @@
+// SPDX-License-Identifier: GPL-2.0-only
 //! Entries of a list's journal and its objects, from the words of their lines.
 
 ghost use Rattle.std.specs.Prelude.{◌≡◌, [], IfOk, IfSome, IfNone, codes, if◌then◌else◌};
@@ -78,7 +79,7 @@ fn read_named(rest: Option<&[u8]>) -> Option<Named>
 }
 
 /// An object, from the words behind the first of its line. None: its numbers don't have the ranges of
-/// their types. Want of memory alone is an error. Our own.
+/// their types. Want of memory alone is an error.
 pub fn item(alloc: Global, rest: Option<&[u8]>) -> Result<Option<Object>, Memory>
     ensures { IfOk result (λ found. IsReadAs found (read_item [] (words_left rest.entry))
         (IsObjectNumbered (read_item [] (words_left rest.entry)))) }
@@ -233,7 +234,7 @@ fn drained(rest: Option<&[u8]>) -> Option<Entry>
 }
 
 /// An entry of a list's journal, from the first word of its line and those behind it. None: its
-/// numbers don't have the ranges of their types. Want of memory alone is an error. Our own.
+/// numbers don't have the ranges of their types. Want of memory alone is an error.
 #[tactic(auto, unfolding(shr_report::specs::ReadLines::read_entry))]
 pub fn entry(alloc: Global, first: &[u8], rest: Option<&[u8]>) -> Result<Option<Entry>, Memory>
     ensures { IfOk result (λ found. IsReadAs found (read_entry first.now (words_left rest.entry))

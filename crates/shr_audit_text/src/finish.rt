@@ -1,3 +1,4 @@
+// SPDX-License-Identifier: GPL-2.0-only
 //! The report that a draft says.
 
 ghost use Rattle.std.specs.Prelude.{◌≡◌, IfOk, map};
@@ -121,7 +122,7 @@ fn finish_units(alloc: Global, drafts: Vec<UnitsDraft>) -> Result<Vec<UnitsEnd>,
     Ok(ends)
 }
 
-/// The report that a draft says. Want of memory alone is an error. Our own.
+/// The report that a draft says. Want of memory alone is an error.
 pub fn finish(alloc: Global, draft: Draft) -> Result<Report, Memory>
     ensures { IfOk result (λ report. report ≡ drafted_report draft) }
 {

@@ -1,3 +1,4 @@
+// SPDX-License-Identifier: GPL-2.0-only
 //! Objects of a list at rest.
 
 ghost use Rattle.std.specs.Prelude.{◌≡◌, IfOk};
@@ -9,7 +10,7 @@ use slab::Slab;
 use std::alloc::Global;
 
 /// These objects, the first at the head. Where their keys wouldn't fit 32 bits it is as where there is
-/// no memory. Our own.
+/// no memory.
 pub fn items_of(alloc: Global, mut objects: Vec<Object>) -> Result<Items, Memory>
     ensures { IfOk result (λ items. items.items ≡ objects.items) }
 {

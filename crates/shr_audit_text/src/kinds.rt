@@ -1,9 +1,10 @@
+// SPDX-License-Identifier: GPL-2.0-only
 //! The kinds of a report's lines, by their first words.
 
 ghost use Rattle.std.specs.Prelude.{◌≡◌};
 ghost use Rattle.shr_audit_text.specs.Said.{line_kind, plain_kind_of, within_kind_of, is_entry, is_unit};
 
-/// A kind of lines whose values take no memory. Our own.
+/// A kind of lines whose values take no memory.
 #[derive(Clone, Copy, Debug, PartialEq, Eq)]
 pub enum PlainKind {
     Version,
@@ -28,7 +29,7 @@ pub enum PlainKind {
     End,
 }
 
-/// What a line says, by its first word. Our own.
+/// What a line says, by its first word.
 #[derive(Clone, Copy, Debug, PartialEq, Eq)]
 pub enum Kind {
     Group,
@@ -141,7 +142,7 @@ fn plain_kind_of(word: &[u8]) -> Option<PlainKind>
     }
 }
 
-/// The kind of a line that begins with this word. None: no line does. Our own.
+/// The kind of a line that begins with this word. None: no line does.
 pub fn kind_of(word: &[u8]) -> Option<Kind>
     ensures { result ≡ line_kind word.now }
 {

@@ -1,6 +1,5 @@
-//! Words, numbers and lines of a report's text, read back. Our own.
-//!
-//! A draft of a report, which takes one line after another. Our own.
+// SPDX-License-Identifier: GPL-2.0-only
+//! Words, numbers and lines of a report's text, read back, and the draft that takes one line after another.
 #![tactic(auto)]
 
 pub mod draft;

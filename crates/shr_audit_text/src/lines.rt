@@ -1,3 +1,4 @@
+// SPDX-License-Identifier: GPL-2.0-only
 //! Entries of journals, from the words of their lines.
 
 ghost use Rattle.std.specs.Prelude.{◌≡◌, [], IfSome, IfNone};
@@ -10,7 +11,7 @@ use shr_base::journals::{PoolEntry, TreeEntry};
 
 /// An entry of the journal of registrations, from the words behind the first of its line. None: its
 /// numbers don't have the ranges of their types. Its own number, the first of these words, is for the
-/// printed text to tell. Our own.
+/// printed text to tell.
 pub fn pool_entry(rest: Option<&[u8]>) -> Option<PoolEntry>
     ensures some { IfSome result (λ e. e ≡ read_pool [] (words_left rest.entry)) }
     ensures none { IfNone result (IsPoolNumbered (read_pool [] (words_left rest.entry)) → ⊥) }
@@ -42,7 +43,7 @@ pub fn pool_entry(rest: Option<&[u8]>) -> Option<PoolEntry>
 }
 
 /// An entry of the journal of the tree, from the words behind the first of its line. None: its group
-/// doesn't have 16 bits. Our own.
+/// doesn't have 16 bits.
 pub fn tree_entry(rest: Option<&[u8]>) -> Option<TreeEntry>
     ensures some { IfSome result (λ e. e ≡ read_tree [] (words_left rest.entry)) }
     ensures none { IfNone result (IsTreeNumbered (read_tree [] (words_left rest.entry)) → ⊥) }

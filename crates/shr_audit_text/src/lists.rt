@@ -1,3 +1,4 @@
+// SPDX-License-Identifier: GPL-2.0-only
 //! The lists and the pools, as far as they were read.
 
 ghost use Rattle.std.specs.Prelude.{◌≡◌, IfOk};
@@ -10,7 +11,7 @@ use shr_base::objects::Object;
 use shr_base::places::Place;
 use std::alloc::Global;
 
-/// A list as far as it was read. Our own.
+/// A list as far as it was read.
 #[derive(Drop)]
 pub struct ListDraft {
     pub place: Place,
@@ -18,7 +19,7 @@ pub struct ListDraft {
     pub items: Vec<Object>,
 }
 
-/// Another list. Our own.
+/// Another list.
 pub fn take_place(alloc: Global, lists: &mut Vec<ListDraft>, place: Place) -> Result<(), Memory>
     ensures { IfOk result (λ _. lists_of lists.new.items
         ≡ with_place place (lists_of lists.old.items)) }
@@ -31,7 +32,7 @@ pub fn take_place(alloc: Global, lists: &mut Vec<ListDraft>, place: Place) -> Re
     Ok(())
 }
 
-/// An entry of the last list. Our own.
+/// An entry of the last list.
 pub fn take_entry(lists: &mut Vec<ListDraft>, entry: Entry) -> Result<(), Memory>
     ensures { IfOk result (λ _. lists_of lists.new.items
         ≡ with_list_entry entry (lists_of lists.old.items)) }
@@ -44,7 +45,7 @@ pub fn take_entry(lists: &mut Vec<ListDraft>, entry: Entry) -> Result<(), Memory
     Ok(())
 }
 
-/// An object of the last list. Our own.
+/// An object of the last list.
 pub fn take_item(lists: &mut Vec<ListDraft>, item: Object) -> Result<(), Memory>
     ensures { IfOk result (λ _. lists_of lists.new.items
         ≡ with_item item (lists_of lists.old.items)) }
@@ -57,14 +58,14 @@ pub fn take_item(lists: &mut Vec<ListDraft>, item: Object) -> Result<(), Memory>
     Ok(())
 }
 
-/// A pool on a node as far as it was read. Our own.
+/// A pool on a node as far as it was read.
 #[derive(Drop)]
 pub struct UnitsDraft {
     pub head: UnitsHead,
     pub entries: Vec<PlainEntry>,
 }
 
-/// Another pool on a node. Our own.
+/// Another pool on a node.
 pub fn take_units(alloc: Global, units: &mut Vec<UnitsDraft>, head: UnitsHead) -> Result<(), Memory>
     ensures { IfOk result (λ _. pools_of units.new.items
         ≡ with_units head (pools_of units.old.items)) }
@@ -76,7 +77,7 @@ pub fn take_units(alloc: Global, units: &mut Vec<UnitsDraft>, head: UnitsHead) -
     Ok(())
 }
 
-/// An entry of the last pool's journal. Our own.
+/// An entry of the last pool's journal.
 pub fn take_unit(units: &mut Vec<UnitsDraft>, entry: PlainEntry) -> Result<(), Memory>
     ensures { IfOk result (λ _. pools_of units.new.items
         ≡ with_unit entry (pools_of units.old.items)) }

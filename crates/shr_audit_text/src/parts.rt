@@ -1,3 +1,4 @@
+// SPDX-License-Identifier: GPL-2.0-only
 //! What the workers did, as far as it was read.
 
 ghost use Rattle.std.specs.Prelude.{◌≡◌, ◌-◌, ◌%◌, ◌^◌, [], length, IfOk};
@@ -13,7 +14,7 @@ use shr_base::replies::{Answered, Found, Reply};
 use shr_base::walks::{Carry, Isolation, MapSeen, PlainTry};
 use std::alloc::Global;
 
-/// A walk as far as it was read. Our own.
+/// A walk as far as it was read.
 #[derive(Drop)]
 pub struct WalkDraft {
     pub by: Serial,
@@ -22,7 +23,7 @@ pub struct WalkDraft {
     pub attempts: Vec<Attempt>,
 }
 
-/// A walk of the pools as far as it was read. Our own.
+/// A walk of the pools as far as it was read.
 #[derive(Drop)]
 pub struct PlainDraft {
     pub by: Serial,
@@ -30,7 +31,7 @@ pub struct PlainDraft {
     pub tries: Vec<PlainTry>,
 }
 
-/// A worker's part as far as it was read. Our own.
+/// A worker's part as far as it was read.
 #[derive(Drop)]
 pub struct PartDraft {
     pub answers: Vec<Answered>,
@@ -83,7 +84,7 @@ fn pad(alloc: Global, parts: &mut Vec<PartDraft>, worker: u16) -> Result<(), Mem
     Ok(())
 }
 
-/// An answer of this worker, after those that were read. Our own.
+/// An answer of this worker, after those that were read.
 pub fn take_reply(
     alloc: Global,
     parts: &mut Vec<PartDraft>,
@@ -115,7 +116,7 @@ fn find_last(answers: &mut Vec<Answered>, found: Found) -> Result<(), Memory>
     Ok(())
 }
 
-/// What `find` gave at the last answer. Our own.
+/// What `find` gave at the last answer.
 pub fn take_found(parts: &mut Vec<PartDraft>, found: Found) -> Result<(), Memory>
     ensures { IfOk result (λ _. drafted_parts parts.new.items
         ≡ with_found found (drafted_parts parts.old.items)) }
@@ -128,7 +129,7 @@ pub fn take_found(parts: &mut Vec<PartDraft>, found: Found) -> Result<(), Memory
     Ok(())
 }
 
-/// A walk of the last answer. Our own.
+/// A walk of the last answer.
 pub fn take_walk(alloc: Global, parts: &mut Vec<PartDraft>, head: Head) -> Result<(), Memory>
     ensures { IfOk result (λ _. drafted_parts parts.new.items
         ≡ with_walk head (drafted_parts parts.old.items)) }
@@ -160,7 +161,7 @@ fn see_last(walks: &mut Vec<WalkDraft>, seen: MapSeen) -> Result<(), Memory>
     Ok(())
 }
 
-/// A word of bits that the last walk loaded. Our own.
+/// A word of bits that the last walk loaded.
 pub fn take_seen(parts: &mut Vec<PartDraft>, seen: MapSeen) -> Result<(), Memory>
     ensures { IfOk result (λ _. drafted_parts parts.new.items
         ≡ with_seen seen (drafted_parts parts.old.items)) }
@@ -186,7 +187,7 @@ fn try_last(walks: &mut Vec<WalkDraft>, attempt: Attempt) -> Result<(), Memory>
     Ok(())
 }
 
-/// An attempt of the last walk. Our own.
+/// An attempt of the last walk.
 pub fn take_attempt(parts: &mut Vec<PartDraft>, attempt: Attempt) -> Result<(), Memory>
     ensures { IfOk result (λ _. drafted_parts parts.new.items
         ≡ with_attempt attempt (drafted_parts parts.old.items)) }
@@ -199,7 +200,7 @@ pub fn take_attempt(parts: &mut Vec<PartDraft>, attempt: Attempt) -> Result<(), 
     Ok(())
 }
 
-/// A carry of the last answer. Our own.
+/// A carry of the last answer.
 pub fn take_carry(parts: &mut Vec<PartDraft>, carried: PlaceAmount) -> Result<(), Memory>
     ensures { IfOk result (λ _. drafted_parts parts.new.items
         ≡ with_carry carried (drafted_parts parts.old.items)) }
@@ -217,7 +218,7 @@ pub fn take_carry(parts: &mut Vec<PartDraft>, carried: PlaceAmount) -> Result<()
     Ok(())
 }
 
-/// An isolation of the last answer. Our own.
+/// An isolation of the last answer.
 pub fn take_isolation(parts: &mut Vec<PartDraft>, head: IsolationHead) -> Result<(), Memory>
     ensures { IfOk result (λ _. drafted_parts parts.new.items
         ≡ with_isolation head (drafted_parts parts.old.items)) }
@@ -238,7 +239,7 @@ pub fn take_isolation(parts: &mut Vec<PartDraft>, head: IsolationHead) -> Result
     Ok(())
 }
 
-/// A walk of the pools of the last answer. Our own.
+/// A walk of the pools of the last answer.
 pub fn take_plain(alloc: Global, parts: &mut Vec<PartDraft>, head: PlainHead) -> Result<(), Memory>
     ensures { IfOk result (λ _. drafted_parts parts.new.items
         ≡ with_plain head (drafted_parts parts.old.items)) }
@@ -269,7 +270,7 @@ fn pass_last(walks: &mut Vec<PlainDraft>, came: PlainTry) -> Result<(), Memory>
     Ok(())
 }
 
-/// What the last walk of the pools came to at another pool. Our own.
+/// What the last walk of the pools came to at another pool.
 pub fn take_pass(parts: &mut Vec<PartDraft>, came: PlainTry) -> Result<(), Memory>
     ensures { IfOk result (λ _. drafted_parts parts.new.items
         ≡ with_pass came (drafted_parts parts.old.items)) }

@@ -1,3 +1,4 @@
+// SPDX-License-Identifier: GPL-2.0-only
 //! Pools of units, walks of the pools, and isolations, from the words of their lines.
 
 ghost use Rattle.std.specs.Prelude.{◌≡◌, [], IfSome, IfNone};
@@ -14,7 +15,7 @@ use shr_base::places::Place;
 use shr_base::replies::IsolateEnd;
 use shr_base::walks::{PlainAnswer, PlainTry};
 
-/// What the first line of a walk of the pools says: all but its command and its tries. Our own.
+/// What the first line of a walk of the pools says: all but its command and its tries.
 #[derive(Clone, Copy)]
 pub struct PlainHead {
     pub node: u8,
@@ -22,7 +23,7 @@ pub struct PlainHead {
     pub answer: PlainAnswer,
 }
 
-/// What the line of an isolation says: all but its command. Our own.
+/// What the line of an isolation says: all but its command.
 #[derive(Clone, Copy)]
 pub struct IsolationHead {
     pub place: Place,
@@ -32,7 +33,7 @@ pub struct IsolationHead {
     pub ending: IsolateEnd,
 }
 
-/// What the first line of a pool on a node says: all but its journal. Our own.
+/// What the first line of a pool on a node says: all but its journal.
 #[derive(Clone, Copy)]
 pub struct UnitsHead {
     pub pool: u8,
@@ -64,7 +65,7 @@ fn come_to(rest: Option<&[u8]>) -> Option<PlainTry>
 }
 
 /// What a walk of the pools came to at one pool, from the words behind the first of its line. None:
-/// its numbers don't have the ranges of their types. Our own.
+/// its numbers don't have the ranges of their types.
 pub fn pool_pass(rest: Option<&[u8]>) -> Option<PlainTry>
     ensures some { IfSome result (λ t. t ≡ read_pass_line [] (words_left rest.entry)) }
     ensures none { IfNone result (IsTryNumbered (read_pass_line [] (words_left rest.entry)) → ⊥) }
@@ -90,7 +91,6 @@ fn plain_answer(rest: Option<&[u8]>) -> Option<PlainAnswer>
 }
 
 /// The head of a walk of the pools, from the words behind the first of its line. None as for a pass.
-/// Our own.
 pub fn plain_head(rest: Option<&[u8]>) -> Option<PlainHead>
     ensures some { IfSome result (λ w. w ≡ plain_head_of (read_plain [] (words_left rest.entry))) }
     ensures none { IfNone result (IsPlainHeadNumbered (plain_head_of (read_plain []
@@ -107,7 +107,6 @@ pub fn plain_head(rest: Option<&[u8]>) -> Option<PlainHead>
 }
 
 /// An isolation without its command, from the words behind the first of its line. None as for a pass.
-/// Our own.
 pub fn isolation_head(rest: Option<&[u8]>) -> Option<IsolationHead>
     ensures some { IfSome result (λ i. i
         ≡ isolation_head_of (read_isolation [] (words_left rest.entry))) }
@@ -131,7 +130,7 @@ pub fn isolation_head(rest: Option<&[u8]>) -> Option<IsolationHead>
 }
 
 /// An entry of a pool's journal, from the first word of its line and those behind it. None as for a
-/// pass. Our own.
+/// pass.
 #[tactic(auto, unfolding(shr_report::specs::ReadLines::read_plain_entry))]
 pub fn plain_entry(first: &[u8], rest: Option<&[u8]>) -> Option<PlainEntry>
     ensures some { IfSome result (λ e. e ≡ read_plain_entry first.now (words_left rest.entry)) }
@@ -163,7 +162,7 @@ pub fn plain_entry(first: &[u8], rest: Option<&[u8]>) -> Option<PlainEntry>
 }
 
 /// A pool on a node without its journal, from the words behind the first of its line. None as for a
-/// pass. Our own.
+/// pass.
 pub fn units_head(rest: Option<&[u8]>) -> Option<UnitsHead>
     ensures some { IfSome result (λ u. u ≡ units_head_of (read_units [] (words_left rest.entry))) }
     ensures none { IfNone result (AreUnitsHeadNumbered (units_head_of (read_units []
@@ -179,8 +178,7 @@ pub fn units_head(rest: Option<&[u8]>) -> Option<UnitsHead>
     })
 }
 
-/// The deferred word of a pool, from the words behind the first of its line. None as for a pass. Our
-/// own.
+/// The deferred word of a pool, from the words behind the first of its line. None as for a pass.
 pub fn pool_amount(rest: Option<&[u8]>) -> Option<PlaceAmount>
     ensures some { IfSome result (λ a. a ≡ read_pool_amount [] (words_left rest.entry)) }
     ensures none { IfNone result (IsAmountNumbered (read_pool_amount [] (words_left rest.entry))

@@ -1,3 +1,4 @@
+// SPDX-License-Identifier: GPL-2.0-only
 //! Reading a whole report.
 
 ghost use Rattle.std.specs.Prelude.{◌≡◌, ◌≤◌, [], ◌∷◌, length, Some, IfOk, IfSome, IfNone};
@@ -37,7 +38,7 @@ fn first_line(bytes: &[u8]) -> Option<(&[u8], &[u8])>
 
 /// The report that these bytes say, line by line. It believes what it reads: if the bytes are the text
 /// of a report it is that one, and else it may be any or none, which a caller tells by printing it
-/// again. The lists of what it finds have no room to spare. Want of memory alone is an error. Our own.
+/// again. The lists of what it finds have no room to spare. Want of memory alone is an error.
 pub fn read(alloc: Global, bytes: &[u8]) -> Result<Option<Report>, Memory>
     ensures found { IfOk result (λ found. (r : Report) → IsReportOf bytes.now r → found ≡ Some r) }
     ensures tight { IfOk result (λ found. IfSome found IsTightReport) }

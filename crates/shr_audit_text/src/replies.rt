@@ -1,3 +1,4 @@
+// SPDX-License-Identifier: GPL-2.0-only
 //! Answers to commands, from the words of their lines.
 
 ghost use Rattle.std.specs.Prelude.{◌≡◌, [], ◌∷◌, true, IfOk, IfSome, IfNone, bytes_eq, codes, if◌then◌else◌};
@@ -17,7 +18,7 @@ use shr_base::text::Text;
 use std::alloc::Global;
 
 /// An answer, from its words. None: its numbers don't have the ranges of their types. Want of memory
-/// alone is an error. Our own.
+/// alone is an error.
 pub fn reply(alloc: Global, rest: Option<&[u8]>) -> Result<Option<Reply>, Memory>
     ensures { IfOk result (λ found. IsReadAs found (read_reply (words_left rest.entry))
         (IsReplyNumbered (read_reply (words_left rest.entry)))) }

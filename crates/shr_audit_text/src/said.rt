@@ -1,3 +1,4 @@
+// SPDX-License-Identifier: GPL-2.0-only
 //! What a line of a report says.
 
 ghost use Rattle.std.specs.Prelude.{[], IfOk};
@@ -29,7 +30,6 @@ use shr_base::walks::{MapSeen, PlainTry};
 use std::alloc::Global;
 
 /// What one line says. A number that says only where the line stands is for the printed text to tell.
-/// Our own.
 #[derive(Drop)]
 pub enum Said {
     Version { version: u8 },
@@ -220,7 +220,7 @@ fn item_said(alloc: Global, rest: Option<&[u8]>) -> Result<Option<Said>, Memory>
 }
 
 /// What a line says in a report of this version. None: its first word is no line's, or its numbers
-/// don't have the ranges of their types. Want of memory alone is an error. Our own.
+/// don't have the ranges of their types. Want of memory alone is an error.
 pub fn read_line(alloc: Global, version: u8, line: &[u8]) -> Result<Option<Said>, Memory>
     ensures { IfOk result (λ found. IsReadOf found (read_line version line.now)) }
 {

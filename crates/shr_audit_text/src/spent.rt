@@ -1,3 +1,4 @@
+// SPDX-License-Identifier: GPL-2.0-only
 //! Counters that are used up, and how something ended, from the words that say so.
 
 ghost use Rattle.std.specs.Prelude.{◌≡◌, IfSome, IfNone};
@@ -11,7 +12,7 @@ use shr_base::places::{At, Place, Serial};
 use shr_base::replies::{HalfWhy, IsolateEnd, Spent};
 use shr_base::walks::{Ending, PassRecord};
 
-/// A place, and the words behind it. None: its numbers don't have the ranges of their types. Our own.
+/// A place, and the words behind it. None: its numbers don't have the ranges of their types.
 pub fn place(rest: Option<&[u8]>) -> Option<Place>
     ensures some { IfSome result (λ p. p ≡ read_place (words_left rest.entry)) }
     ensures none { IfNone result (IsNumbered (read_place (words_left rest.entry)) → ⊥) }
@@ -26,7 +27,7 @@ pub fn place(rest: Option<&[u8]>) -> Option<Place>
     })
 }
 
-/// An entry that is cited. None as for a place. Our own.
+/// An entry that is cited. None as for a place.
 pub fn at(rest: Option<&[u8]>) -> Option<At>
     ensures some { IfSome result (λ a. a ≡ read_at (words_left rest.entry)) }
     ensures none { IfNone result (IsAtNumbered (read_at (words_left rest.entry)) → ⊥) }
@@ -42,7 +43,7 @@ pub fn at(rest: Option<&[u8]>) -> Option<At>
     })
 }
 
-/// A command's number with its worker's. None as for a place. Our own.
+/// A command's number with its worker's. None as for a place.
 pub fn serial(rest: Option<&[u8]>) -> Option<Serial>
     ensures some { IfSome result (λ s. s ≡ read_serial (words_left rest.entry)) }
     ensures none { IfNone result (IsSerialNumbered (read_serial (words_left rest.entry)) → ⊥) }
@@ -55,7 +56,7 @@ pub fn serial(rest: Option<&[u8]>) -> Option<Serial>
     })
 }
 
-/// A counter that is used up. None as for a place. Our own.
+/// A counter that is used up. None as for a place.
 #[tactic(auto, unfolding(shr_report::specs::ReadWords::read_spent))]
 pub fn spent(rest: Option<&[u8]>) -> Option<Spent>
     ensures some { IfSome result (λ s. s ≡ read_spent (words_left rest.entry)) }
@@ -87,7 +88,7 @@ pub fn spent(rest: Option<&[u8]>) -> Option<Spent>
     })
 }
 
-/// Why an unregistering stopped half way. None as for a place. Our own.
+/// Why an unregistering stopped half way. None as for a place.
 #[tactic(auto, unfolding(shr_report::specs::ReadWords::read_why))]
 pub fn why(rest: Option<&[u8]>) -> Option<HalfWhy>
     ensures some { IfSome result (λ w. w ≡ read_why (words_left rest.entry)) }
@@ -102,7 +103,7 @@ pub fn why(rest: Option<&[u8]>) -> Option<HalfWhy>
     })
 }
 
-/// How an isolation ended. None as for a place. Our own.
+/// How an isolation ended. None as for a place.
 #[tactic(auto, unfolding(shr_report::specs::ReadWords::read_isolate_end))]
 pub fn isolate_end(rest: Option<&[u8]>) -> Option<IsolateEnd>
     ensures some { IfSome result (λ e. e ≡ read_isolate_end (words_left rest.entry)) }
@@ -130,7 +131,7 @@ pub fn isolate_end(rest: Option<&[u8]>) -> Option<IsolateEnd>
     })
 }
 
-/// How a pass ended. None as for a place. Our own.
+/// How a pass ended. None as for a place.
 #[tactic(auto, unfolding(shr_report::specs::ReadWords::read_ending))]
 pub fn ending(rest: Option<&[u8]>) -> Option<Ending>
     ensures some { IfSome result (λ e. e ≡ read_ending (words_left rest.entry)) }
@@ -151,7 +152,7 @@ pub fn ending(rest: Option<&[u8]>) -> Option<Ending>
     })
 }
 
-/// A pass. None as for a place. Our own.
+/// A pass. None as for a place.
 #[tactic(auto, unfolding(shr_report::specs::ReadWords::read_pass))]
 pub fn pass(rest: Option<&[u8]>) -> Option<PassRecord>
     ensures some { IfSome result (λ p. p ≡ read_pass (words_left rest.entry)) }

@@ -1,3 +1,4 @@
+// SPDX-License-Identifier: GPL-2.0-only
 //! Amounts, words of bits, charges, numbers of lookups, sizes and totals, from the words of their
 //! lines.
 
@@ -13,7 +14,7 @@ use shr_base::journals::UseStep;
 use shr_base::replies::Found;
 
 /// A place's amount, from the words behind the first of its line, which says a deferred word or a
-/// carry. None: its numbers don't have the ranges of their types. Our own.
+/// carry. None: its numbers don't have the ranges of their types.
 pub fn amount(rest: Option<&[u8]>) -> Option<PlaceAmount>
     ensures some { IfSome result (λ a. a ≡ read_amount [] (words_left rest.entry)) }
     ensures none { IfNone result (IsAmountNumbered (read_amount [] (words_left rest.entry)) → ⊥) }
@@ -30,7 +31,7 @@ pub fn amount(rest: Option<&[u8]>) -> Option<PlaceAmount>
 }
 
 /// A word of bits at the end, from the words behind the first of its line: version 1 says no unit.
-/// None as for an amount. Our own.
+/// None as for an amount.
 pub fn bit(version: u8, rest: Option<&[u8]>) -> Option<MapEnd>
     ensures some { IfSome result (λ m. m ≡ read_bit version [] (words_left rest.entry)) }
     ensures none { IfNone result (IsMapNumbered (read_bit version [] (words_left rest.entry)) → ⊥) }
@@ -57,7 +58,7 @@ pub fn bit(version: u8, rest: Option<&[u8]>) -> Option<MapEnd>
     })
 }
 
-/// A charge or uncharge, from the words behind the first of its line. None as for an amount. Our own.
+/// A charge or uncharge, from the words behind the first of its line. None as for an amount.
 pub fn use_step(rest: Option<&[u8]>) -> Option<UseStep>
     ensures some { IfSome result (λ u. u ≡ read_use [] (words_left rest.entry)) }
     ensures none { IfNone result (IsUseNumbered (read_use [] (words_left rest.entry)) → ⊥) }
@@ -76,7 +77,7 @@ pub fn use_step(rest: Option<&[u8]>) -> Option<UseStep>
 }
 
 /// An id's number of lookups, from the words behind the first of its line. None: it doesn't have 32
-/// bits. Our own.
+/// bits.
 pub fn lookups(rest: Option<&[u8]>) -> Option<u32>
     ensures some { IfSome result (λ n. n ≡ read_lookups [] (words_left rest.entry)) }
     ensures none { IfNone result (IsCountNumber (read_lookups [] (words_left rest.entry)) → ⊥) }
@@ -86,7 +87,7 @@ pub fn lookups(rest: Option<&[u8]>) -> Option<u32>
     number_32(lookups)
 }
 
-/// What `find` gave, from the words behind the first of its line. None as for an amount. Our own.
+/// What `find` gave, from the words behind the first of its line. None as for an amount.
 pub fn found(rest: Option<&[u8]>) -> Option<Found>
     ensures some { IfSome result (λ f. f ≡ read_found [] (words_left rest.entry)) }
     ensures none { IfNone result (IsFindNumbered (Some (read_found [] (words_left rest.entry)))

@@ -1,3 +1,4 @@
+// SPDX-License-Identifier: GPL-2.0-only
 //! Walks, the words of bits that they loaded, and attempts, from the words of their lines.
 
 ghost use Rattle.std.specs.Prelude.{◌≡◌, [], IfSome, IfNone, bytes_eq, codes, if◌then◌else◌};
@@ -60,7 +61,7 @@ fn restored(number: u32, rest: Option<&[u8]>) -> Option<Outcome>
 }
 
 /// What an attempt came to, from the words behind its id. None: its numbers don't have the ranges of
-/// their types. Our own.
+/// their types.
 #[tactic(auto, unfolding(shr_report::specs::ReadLines::read_outcome))]
 pub fn outcome(rest: Option<&[u8]>) -> Option<Outcome>
     ensures some { IfSome result (λ o. o ≡ read_outcome (words_left rest.entry)) }
@@ -112,7 +113,7 @@ pub fn outcome(rest: Option<&[u8]>) -> Option<Outcome>
     restored(number, rest)
 }
 
-/// An attempt, from the words behind the first of its line. None as for what it came to. Our own.
+/// An attempt, from the words behind the first of its line. None as for what it came to.
 pub fn attempt(rest: Option<&[u8]>) -> Option<Attempt>
     ensures some { IfSome result (λ a. a ≡ read_attempt [] (words_left rest.entry)) }
     ensures none { IfNone result (IsAttemptNumbered (read_attempt [] (words_left rest.entry)) → ⊥) }
@@ -123,7 +124,7 @@ pub fn attempt(rest: Option<&[u8]>) -> Option<Attempt>
 }
 
 /// A word of bits that a walk loaded, from the words behind the first of its line. None as for an
-/// attempt. Our own.
+/// attempt.
 pub fn seen(rest: Option<&[u8]>) -> Option<MapSeen>
     ensures some { IfSome result (λ m. m ≡ read_map [] (words_left rest.entry)) }
     ensures none { IfNone result (IsSeenNumbered (read_map [] (words_left rest.entry)) → ⊥) }
@@ -136,7 +137,7 @@ pub fn seen(rest: Option<&[u8]>) -> Option<MapSeen>
     })
 }
 
-/// What a walk was answered. None as for an attempt. Our own.
+/// What a walk was answered. None as for an attempt.
 #[tactic(auto, unfolding(shr_report::specs::ReadLines::read_walked))]
 pub fn walked(rest: Option<&[u8]>) -> Option<WalkAnswer>
     ensures some { IfSome result (λ a. a ≡ read_walked (words_left rest.entry)) }
@@ -159,7 +160,7 @@ pub fn walked(rest: Option<&[u8]>) -> Option<WalkAnswer>
     })
 }
 
-/// What the first line of a walk says: all but its command, and what it loaded and tried. Our own.
+/// What the first line of a walk says: all but its command, and what it loaded and tried.
 #[derive(Clone, Copy, Debug, PartialEq, Eq)]
 pub struct Head {
     pub group: u16,
@@ -169,7 +170,7 @@ pub struct Head {
     pub answer: WalkAnswer,
 }
 
-/// A walk's head, from the words behind the first of its line. None as for an attempt. Our own.
+/// A walk's head, from the words behind the first of its line. None as for an attempt.
 pub fn walk_head(rest: Option<&[u8]>) -> Option<Head>
     ensures some { IfSome result (λ w. w ≡ head_of (read_walk [] (words_left rest.entry))) }
     ensures none { IfNone result (IsHeadNumbered (head_of (read_walk [] (words_left rest.entry)))

@@ -1,3 +1,4 @@
+// SPDX-License-Identifier: GPL-2.0-only
 //! Words and numbers of a line, whatever its bytes are.
 
 ghost use Rattle.std.specs.Prelude.{◌≡◌, ◌≤◌, ◌^◌, ◌≤ℤ◌, ◌<ℤ◌, pos, neg_ℤ, IfSome, IfNone};
@@ -6,7 +7,7 @@ ghost use Rattle.shr_words.specs.WordReading.{words_left};
 
 use shr_words::cursor::next;
 
-/// The next word, or an empty one where none is left, and the words behind it. Our own.
+/// The next word, or an empty one where none is left, and the words behind it.
 pub fn word(rest: Option<&[u8]>) -> (&[u8], Option<&[u8]>)
     ensures first { result.0.now ≡ first_of (words_left rest.entry) }
     ensures later { words_left result.1 ≡ later (words_left rest.entry) }
@@ -17,7 +18,7 @@ pub fn word(rest: Option<&[u8]>) -> (&[u8], Option<&[u8]>)
     }
 }
 
-/// Whether no word is left. Our own.
+/// Whether no word is left.
 #[tactic(auto, unfolding(shr_model::specs::PieceParts::left, shr_model::specs::Pieces::pieces))]
 pub fn is_over(rest: Option<&[u8]>) -> bool
     ensures { result ≡ is_none (words_left rest.entry) }
@@ -29,7 +30,7 @@ pub fn is_over(rest: Option<&[u8]>) -> bool
 }
 
 /// The number that a word writes, where it has 64 bits. The bytes may be any: that they are digits is
-/// for the printed text to tell. Our own.
+/// for the printed text to tell.
 pub fn number(word: &[u8]) -> Option<u64>
     ensures some { IfSome result (λ n. n ≡ num word.now) }
     ensures none { IfNone result (2 ^ 64 ≤ num word.now) }
@@ -47,7 +48,7 @@ pub fn number(word: &[u8]) -> Option<u64>
     Some(n)
 }
 
-/// The same of a number of 32 bits. Our own.
+/// The same of a number of 32 bits.
 pub fn number_32(word: &[u8]) -> Option<u32>
     ensures some { IfSome result (λ n. n ≡ num word.now) }
     ensures none { IfNone result (2 ^ 32 ≤ num word.now) }
@@ -62,7 +63,7 @@ pub fn number_32(word: &[u8]) -> Option<u32>
     }
 }
 
-/// The same of a number of 16 bits. Our own.
+/// The same of a number of 16 bits.
 pub fn number_16(word: &[u8]) -> Option<u16>
     ensures some { IfSome result (λ n. n ≡ num word.now) }
     ensures none { IfNone result (2 ^ 16 ≤ num word.now) }
@@ -73,7 +74,7 @@ pub fn number_16(word: &[u8]) -> Option<u16>
     if n <= 0xffff { Some(n as u16) } else { None }
 }
 
-/// The same of a number of 8 bits. Our own.
+/// The same of a number of 8 bits.
 pub fn number_8(word: &[u8]) -> Option<u8>
     ensures some { IfSome result (λ n. n ≡ num word.now) }
     ensures none { IfNone result (2 ^ 8 ≤ num word.now) }
@@ -96,7 +97,7 @@ fn digit(b: u8) -> u64
     }
 }
 
-/// The number that a word writes in hexadecimal, where it has 64 bits. The bytes may be any. Our own.
+/// The number that a word writes in hexadecimal, where it has 64 bits. The bytes may be any.
 pub fn hexadecimal(word: &[u8]) -> Option<u64>
     ensures some { IfSome result (λ n. n ≡ unhex word.now) }
     ensures none { IfNone result (2 ^ 64 ≤ unhex word.now) }
@@ -114,7 +115,7 @@ pub fn hexadecimal(word: &[u8]) -> Option<u64>
     Some(n)
 }
 
-/// The number with a sign that a word writes, where it has 64 bits. The bytes may be any. Our own.
+/// The number with a sign that a word writes, where it has 64 bits. The bytes may be any.
 #[tactic(auto, unfolding(shr_report::specs::ReadWords::signed_num, shr_report::specs::ReadWords::starts_minus, shr_report::specs::ReadWords::later_bytes))]
 pub fn signed(word: &[u8]) -> Option<i64>
     ensures some { IfSome result (λ n. n ≡ signed_num word.now) }
@@ -138,7 +139,7 @@ pub fn signed(word: &[u8]) -> Option<i64>
     }
 }
 
-/// The bytes behind the first, as those of a value behind its `=`. Our own.
+/// The bytes behind the first, as those of a value behind its `=`.
 pub fn behind_first(word: &[u8]) -> &[u8]
     ensures { result.now ≡ bytes_later word.now }
 {

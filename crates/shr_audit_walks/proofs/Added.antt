@@ -1,3 +1,4 @@
+-- SPDX-License-Identifier: GPL-2.0-only
 -- Keys that loops add, item by item.
 use Rattle.shr_audit_walks.proofs.ScansCommon.{◌≡◌, ℕ, ◌+◌, ◌<◌, ◌≤◌, List, ◌++◌, length, get_or, take, sym, ap, ◌∙◌, arith, flat_map, enumerate_from, get_or-enumerate_from, length-enumerate_from, flat_all}
 use Rattle.shr_model.proofs.Lists.{flat_more}

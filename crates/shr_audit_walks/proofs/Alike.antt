@@ -1,3 +1,4 @@
+-- SPDX-License-Identifier: GPL-2.0-only
 -- Lists that have each number equally often.
 use Rattle.shr_audit_walks.proofs.RoundsCommon.{◌≡◌, ℕ, zero, suc, ◌+◌, ◌<◌, Bool, true, false, cond, List, [], ◌∷◌, ◌++◌, length, get_or, take, drop, refl, sym, ap, subst, ◌∙◌, inl, inr, arith, ◌==◌, AllByRecursion, cases_Bool, eqb-true, eq-eqb, ne_eqb, sum_by-cons, AreAlike, IsWithout, times_over}
 

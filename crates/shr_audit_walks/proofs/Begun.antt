@@ -1,3 +1,4 @@
+-- SPDX-License-Identifier: GPL-2.0-only
 -- What was made begins with what was due, piece by piece.
 use Rattle.shr_audit_walks.proofs.RoundsCommon.{◌≡◌, ℕ, zero, suc, ◌+◌, ◌-◌, ◌<◌, ◌≤◌, Bool, true, false, List, [], ◌∷◌, ◌++◌, length, get_or, take, drop, map, flat_map, refl, sym, ap, subst, ◌∙◌, arith, ◌==◌, Decides, range_with_len, eqb-true, eq-eqb, append-nil, append_assoc, length-drop, take_more, flat_map-append, Job, BeginsAsDue, IsBehind, IsMadeAsDue, IsNotBegun, take_all, take-append-drop}
 use Rattle.std.proofs.lemmas.List.FromFn.{length-range_with_len, get_or-range_with_len}

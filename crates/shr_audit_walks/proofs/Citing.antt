@@ -1,3 +1,4 @@
+-- SPDX-License-Identifier: GPL-2.0-only
 -- Entries noted one after another, and the versions that are above them.
 use Rattle.shr_audit_walks.proofs.LaterCommon.{◌≡◌, ◌≢◌, ◌⊎◌, ℕ, ◌+◌, ◌*◌, ◌<◌, ◌≤◌, Bool, true, false, cond, List, [], ◌∷◌, ◌++◌, length, get_or, map, filter, flat_map, Option, Some, None, refl, sym, ap, subst, ◌∙◌, inl, inr, arith, nat_eq, nat_lt, slice_get, Decides, get, AllByRecursion, cases_Bool, and_parts, and_from, eq-eqb, ne_eqb, nat_tests, slice_get-get_or, slice_get_within, each_more, decides_iff, At, Place, Answered, Attempt, WalkRecord, is_place, place_in, is_place_itself, is_place_same, at, cited_by, fits, place_key, AreHighestCited, IsAboveHighest, IsWalkLater, IsOutcomeAbove, NotesReply, zero, suc, ◌↔◌, all_of, each_in, Versions, IsAboveEntry, IsAboveAt, IsBlank, IsWalkAbove, NotesEntry, highest_at, all_front, all_right}
 use Rattle.shr_model.specs.Attempts.{Count, counts_of}

@@ -1,3 +1,4 @@
+-- SPDX-License-Identifier: GPL-2.0-only
 -- Places whose bits were cleared, walk by walk.
 use Rattle.shr_audit_walks.proofs.LaterCommon.{◌≡◌, ◌⊎◌, ℕ, ◌+◌, ◌<◌, ◌≤◌, Bool, true, false, cond, List, [], ◌∷◌, ◌++◌, length, get_or, take, map, filter, flat_map, refl, sym, ap, subst, ◌∙◌, inl, inr, ◌||◌, nat_eq, contains, list_any, cases_Bool, eq-eqb, ne_eqb, WorkerPart, Place, Attempt, WalkRecord, is_place, clearings_of, place_in, is_place_itself, is_place_same, clash, Report, fits, place_key, Clears, cleared_by, HasCleared, HasPlaces, PlaceSet}
 use Rattle.std.proofs.lemmas.List.{append-nil, append_assoc, take_more, take_all}

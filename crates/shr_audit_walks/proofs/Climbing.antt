@@ -1,3 +1,4 @@
+-- SPDX-License-Identifier: GPL-2.0-only
 -- The groups at or above another, one after the other.
 use Rattle.shr_audit_walks.proofs.RoundsCommon.{◌≡◌, ℕ, zero, suc, ◌+◌, ◌<◌, ◌≤◌, Bool, true, false, List, [], ◌∷◌, ◌++◌, length, get_or, take, refl, sym, subst, ◌∙◌, inl, inr, arith, ◌↔◌, ◌==◌, nat_lt, Decides, AllByRecursion, cases_Bool, eqb-true, eq-eqb, nat_tests, take_more, IsAtOrAbove, IsTree, parent_of, path_of-below, path_of-root}
 use Rattle.shr_model.specs.Groups.{path_of}

@@ -1,3 +1,4 @@
+-- SPDX-License-Identifier: GPL-2.0-only
 -- The commands of all workers, against the law.
 use Rattle.shr_audit_walks.proofs.RoundsCommon.{◌≡◌, ℕ, ◌+◌, ◌^◌, ◌<◌, ◌≤◌, Bool, true, false, List, [], ◌∷◌, length, get_or, map, Some, refl, sym, ap, subst, ◌∙◌, arith, ◌&&◌, ◌==◌, count_by, slice_get, Decides, AllByRecursion, get_or_from_slice_get, slice_get_within, WorkerPart, UseStep, Serial, Answered, Reply, Command, Script, is_refused, ops_by, Job, job_of, Report, commands_of, limit_of, parents_of, serial_of, uses_at, walks_by, AreWalksOf, clash, more_at, Dues, IsAnswerMade, IsCommandMade, IsPartMade, refused_groups, refusals_with, refusal_key, times_over, jobs_made, stands_here, here_at, EachAnswer, all_at, AreDues, walks_are, same_test}
 use Rattle.shr_laws.specs.Numbers.{HasNumbers, IsUseNumbered}

@@ -1,3 +1,4 @@
+-- SPDX-License-Identifier: GPL-2.0-only
 -- The rounds that were due, by how often each group refused.
 use Rattle.shr_audit_walks.proofs.RoundsCommon.{◌≡◌, ℕ, ◌+◌, ◌<◌, ◌≤◌, Bool, true, false, cond, List, [], ◌∷◌, length, Option, Some, None, refl, sym, ap, subst, ◌∙◌, arith, ◌==◌, Decides, AllByRecursion, eq-eqb, IsAtOrAbove, Job, AreAlike, AreDue, FitsRounds, IsWithout, TakesOut, named, times_over, Refusal, refused_groups, IsPutMade}
 use Rattle.shr_audit_walks.proofs.Alike.{all_alike, same_length, so_of, so_of_each}

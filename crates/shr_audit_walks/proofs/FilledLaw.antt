@@ -1,3 +1,4 @@
+-- SPDX-License-Identifier: GPL-2.0-only
 -- What is so of each walk of each worker is what the law asks of the bits.
 use Rattle.shr_audit_walks.proofs.LaterCommon.{◌≡◌, ℕ, ◌<◌, ◌≤◌, Bool, true, false, cond, List, [], ◌∷◌, length, get_or, take, Option, Some, None, refl, sym, ap, subst, ◌∙◌, arith, ◌==◌, option_map, slice_get, Decides, and_parts, and_from, eqb-true, eq-eqb, get_or_from_slice_get, slice_get-get_or, slice_get_within, WorkerPart, At, Place, Answered, MapSeen, WalkRecord, is_set, bit_of, Report, EachWalk, answers_in, at, serial_of, EachItem, all_at, clash, each_all, InParts, decides_iff, each_walk_of, Words, AreFilled, HasFilled, IsPartFilled, filled_by, is_filled, is_place_itself, is_place_same, found_at, ◌&&◌, not, journals_of, parents_of, reply_at, IsWalkFull}
 use Rattle.std.proofs.lemmas.List.{get_or-take, length-take}

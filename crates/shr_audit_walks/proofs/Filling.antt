@@ -1,3 +1,4 @@
+-- SPDX-License-Identifier: GPL-2.0-only
 -- Places that were filled, as words of bits.
 use Rattle.shr_audit_walks.proofs.LaterCommon.{◌≡◌, ◌≢◌, ℕ, ◌+◌, ◌*◌, ◌%◌, ◌^◌, ◌<◌, ◌≤◌, Bool, true, false, cond, List, length, get_or, take, Option, Some, None, refl, sym, ap, subst, ◌∙◌, inl, inr, arith, ◌||◌, ◌==◌, bit_or, nat_eq, nat_lt, Decides, get, list_any, cases_Bool, and_parts, and_from, eqb-true, eq-eqb, ne_eqb, nat_tests, Place, Answered, MapSeen, WalkRecord, is_set, bit_of, is_place, Report, Words, fits, AreFilled, IsMapFull, NotesFilled, filled_by, is_filled, word_by_key, clash, is_place_itself, is_place_same, ◌/◌, bit_and, min, unit_of, word_key, read_as, IsNoWord, filled_at}
 use Rattle.std.specs.Int.{bit_at, w64}

@@ -1,3 +1,4 @@
+-- SPDX-License-Identifier: GPL-2.0-only
 -- Rounds over some groups in some order, round by round.
 use Rattle.shr_audit_walks.proofs.RoundsCommon.{◌≡◌, ℕ, zero, suc, ◌+◌, ◌-◌, ◌<◌, ◌≤◌, Bool, true, false, List, [], ◌∷◌, ◌++◌, length, get_or, map, flat_map, refl, sym, ap, subst, ◌∙◌, arith, ◌↔◌, ◌==◌, ◌||◌, not, Decides, AllByRecursion, range_with_len, eqb-true, eq-eqb, length-append, length-drop, WalkRecord, IsTree, preorder_of, Job, job_of, preorder_of-group, AreAlike, FitsRounds, IsWithout, TakesOut, times_over, BeginsAsDue, IsBehind, IsMadeAsDue, IsNotBegun, jobs_made, job, subtrees_of, round_over}
 use Rattle.shr_model.specs.Commands.{round_of, rounds_from}

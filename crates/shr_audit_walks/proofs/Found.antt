@@ -1,3 +1,4 @@
+-- SPDX-License-Identifier: GPL-2.0-only
 -- What a binary search answers of keys in order.
 use Rattle.shr_audit_walks.proofs.ScansCommon.{◌≡◌, ℕ, ◌<◌, ◌≤◌, Bool, true, false, List, length, get_or, refl, subst, ◌∙◌, arith, Contains, nat_lt, Decides, IsPermutation, nat_cmp, nat_tests, get_or_from_slice_get, slice_get-get_or, IsBinarySearchResult, IsNonDecreasing, Contains-permutation, IsPermutation-sym, searched}
 use Rattle.std.specs.Result.{is_ok}

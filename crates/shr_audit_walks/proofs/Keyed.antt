@@ -1,3 +1,4 @@
+-- SPDX-License-Identifier: GPL-2.0-only
 -- Passes with one key are one.
 use Rattle.shr_audit_walks.proofs.ScansCommon.{◌≡◌, ℕ, ◌+◌, ◌^◌, ◌<◌, false, ap, ◌∙◌, inl, inr, arith, ◌==◌, ◌&&◌, cases_Bool, eq-eqb, eqb-true, Place, IsNumbered, key_of, ◌*◌, and_parts, and_from}
 use Rattle.shr_model.proofs.Booleans.{same_test}

@@ -1,3 +1,4 @@
+-- SPDX-License-Identifier: GPL-2.0-only
 -- What is so of each walk of each worker is what the law asks of the versions.
 use Rattle.shr_audit_walks.proofs.LaterCommon.{◌≡◌, ℕ, ◌<◌, ◌≤◌, Bool, true, false, List, length, get_or, Option, Some, None, refl, sym, ap, subst, ◌∙◌, option_map, slice_get, Decides, AllByRecursion, WorkerPart, At, Place, Answered, WalkRecord, Report, EachWalk, answers_in, at, cited_by, serial_of, EachItem, all_at, clash, each_all, InParts, each_walk_of, IsWalkLater, IsPartLater, found_at, option_and_then, versions_at, cited_at}
 

@@ -1,3 +1,4 @@
+-- SPDX-License-Identifier: GPL-2.0-only
 -- A walk is lawful if and only if each of its fields was tested so.
 use Rattle.shr_audit_walks.proofs.ScansCommon.{◌≡◌, ℕ, Bool, false, Decides, WalkRecord, Report, IsLawfulWalk, IsShaped, IsScannedAt, fails}
 use Rattle.shr_base.specs.declared.scripts.Script.{Script}

@@ -1,3 +1,4 @@
+-- SPDX-License-Identifier: GPL-2.0-only
 -- What a command made, in the words of the law.
 use Rattle.shr_audit_walks.proofs.RoundsCommon.{◌≡◌, ℕ, ◌+◌, ◌≤◌, Bool, true, false, List, [], ◌∷◌, length, map, take, Some, refl, sym, ap, subst, ◌∙◌, arith, count_by, AllByRecursion, Serial, Reply, Command, Script, is_refused, ops_by, IsAtOrAbove, Job, job_of, Report, limit_of, parents_of, uses_at, walks_by, AreWalksOf, IsCommandMade, is_whole, over_of, AreDue, named, times_over, BeginsAsDue, IsMadeAsDue, AreRoundsOfPut, MayMake, over_at}
 use Rattle.shr_base.specs.declared.replies.Reply.TheVariants as reply

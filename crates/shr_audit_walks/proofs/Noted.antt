@@ -1,3 +1,4 @@
+-- SPDX-License-Identifier: GPL-2.0-only
 -- The Scan entries of lists, noted one list after another.
 use Rattle.shr_audit_walks.proofs.ScansCommon.{◌≡◌, ℕ, zero, suc, ◌+◌, ◌^◌, ◌<◌, ◌≤◌, Bool, true, false, cond, List, [], ◌∷◌, ◌++◌, length, get_or, take, Option, Some, None, refl, sym, ap, subst, ◌∙◌, inl, inr, arith, ◌==◌, ◌&&◌, filter_map, slice_get, AllByRecursion, enumerate_from, cases_Bool, append-nil, append_assoc, take_more, get_or-enumerate_from, length-enumerate_from, get_or_from_slice_get, slice_get_within, PlaceEnd, Entry, Add, Look, Drop, Pin, Scan, MovedIn, Closed, Drained, Place, is_place, is_place_same, is_place_itself, IsEntryNumbered, IsListNumbered, IsNumbered, IsFirst, clash, each_in, ScanSeen, key_of, row_key, AreRowsOf, scan_row, rows_of, rows_with, with_key, ◌≢◌, map, ◌⊎◌, map-append, take_all, end_printed, AddsRowsOf}
 use Rattle.std.specs.Option.{option_or}

@@ -1,3 +1,4 @@
+-- SPDX-License-Identifier: GPL-2.0-only
 -- A stable sort by keys leaves the rows of each key in order.
 use Rattle.shr_audit_walks.proofs.ScansCommon.{◌≡◌, ℕ, List, sym, ap, ◌∙◌, arith, ◌==◌, ◌&&◌, nat_cmp, Plain, ScanSeen, row_key, with_key, IsStableByKey, ties, is_lt}
 use Rattle.std.proofs.lemmas.List.Elements.{filter_agree}

@@ -1,3 +1,4 @@
+-- SPDX-License-Identifier: GPL-2.0-only
 -- The preorders of groups, from the last group up.
 use Rattle.shr_audit_walks.proofs.RoundsCommon.{◌≡◌, ◌⊎◌, ℕ, zero, suc, ◌+◌, ◌-◌, ◌<◌, ◌≤◌, Bool, true, false, cond, List, [], ◌∷◌, ◌++◌, length, get_or, filter, flat_map, Some, refl, sym, ap, subst, ◌∙◌, inl, inr, arith, Global, slice_get, Vec, range_with_len, cases_Bool, append-nil, length-append, flat_map-append, filter-append, slice_get_within, IsTree, parent_of, preorder_of, preorder_of-group, AreOrdersFrom, slice_get-get_or, is_child, child_again, child_higher, child_takes, some_injective}
 use Rattle.shr_audit_walks.specs.Orders.{subtrees_of}

@@ -1,3 +1,4 @@
+-- SPDX-License-Identifier: GPL-2.0-only
 -- That there is no Scan entry of a walk but those of passes, list by list.
 use Rattle.shr_audit_walks.proofs.ScansCommon.{◌≡◌, ℕ, zero, suc, ◌+◌, ◌<◌, ◌≤◌, Bool, true, false, List, [], ◌∷◌, length, Some, refl, sym, subst, inl, inr, arith, ◌==◌, slice_get, Decides, cases_Bool, eq-eqb, eqb-true, PlaceEnd, Entry, Add, Look, Drop, Pin, Scan, MovedIn, Closed, Drained, Place, Report, HasNumbers, IsEntryNumbered, IsListNumbered, IsNumbered, IsFirst, all_at, clash, each_in, IsEntryOfPass, same_or_below, AreOfPasses}
 use Rattle.shr_laws.specs.Parts.{EachEntry}

@@ -1,3 +1,4 @@
+-- SPDX-License-Identifier: GPL-2.0-only
 -- A key is among those of the passes of a report if and only if there is such a pass.
 use Rattle.shr_audit_walks.proofs.ScansCommon.{◌≡◌, ℕ, zero, suc, ◌+◌, ◌^◌, ◌<◌, Bool, true, false, cond, List, [], ◌∷◌, length, Option, Some, None, refl, sym, ap, subst, ◌∙◌, inl, inr, arith, Contains, filter_map, slice_get, enumerate_from, cases_Bool, slice_get_within, WorkerPart, Place, Attempt, WalkRecord, is_place, is_place_same, is_place_itself, Report, HasNumbers, IsNumbered, each_in, key_of, key_if, keys_at, keys_in, keys_of_part, keys_of_report, ◌↔◌, filter, IsPartNumbered, IsWalkNumbered, IsAttemptNumbered}
 use Rattle.std.specs.Option.{IsSomeAnd}

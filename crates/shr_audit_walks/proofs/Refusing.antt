@@ -1,3 +1,4 @@
+-- SPDX-License-Identifier: GPL-2.0-only
 -- The refused charges of a command, counted by their groups.
 use Rattle.shr_audit_walks.proofs.RoundsCommon.{◌≡◌, ◌⊎◌, ℕ, zero, suc, ◌+◌, ◌-◌, ◌^◌, ◌<◌, Bool, true, false, cond, List, [], ◌∷◌, ◌++◌, length, get_or, map, filter, take, Option, Some, None, refl, sym, ap, subst, ◌∙◌, inl, inr, arith, ◌&&◌, ◌==◌, count_by, nat_lt, nat_le, slice_get, AllByRecursion, cases_Bool, eqb-true, eq-eqb, nat_tests, length-map, take_more, sum_by-cons, filter-append, get_or_from_slice_get, slice_get_within, UseStep, Serial, Script, is_refused, ops_by, limit_of, parents_of, Refusal, AreRefusals, refused_groups, refusals_in, refusals_with, refusal_key, times_over, ◌*◌, sum_by, option_and_then, option_map, and_parts, and_from, map-append, All-from_recursion, All-permutation, sum_by-IsPermutation, slice_get-map, is_by, limits_of, all_of, StandByKey, as_refusal}
 use Rattle.std.specs.List.Sorted.{IsPartitionedBy}

@@ -1,3 +1,4 @@
+-- SPDX-License-Identifier: GPL-2.0-only
 -- Keys, rows and passes at known values.
 use Rattle.shr_audit_walks.proofs.ScansCommon.{◌≡◌, ℕ, [], ◌∷◌, None, Some, false, refl, Entry, Scan, Closed, Plain, Place, ScanSeen, key_of, row_key, key_if, scan_row, rows_of, rows_with, with_key}
 

@@ -1,3 +1,4 @@
+-- SPDX-License-Identifier: GPL-2.0-only
 -- The walks of a worker, in the order of its commands.
 use Rattle.shr_audit_walks.proofs.LaterCommon.{◌≡◌, ℕ, ◌+◌, ◌<◌, ◌≤◌, List, length, get_or, Some, sym, ap, subst, ◌∙◌, arith, slice_get, WorkerPart, Answered, WalkRecord, Report, found_at, IsWorkerCommand, each_weaker}
 use Rattle.shr_laws.specs.WellFormed.{IsWellFormed}

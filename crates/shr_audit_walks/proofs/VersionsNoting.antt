@@ -1,3 +1,4 @@
+-- SPDX-License-Identifier: GPL-2.0-only
 -- Versions noted one after_suc another.
 use Rattle.shr_audit_walks.proofs.VersionsCommon.{◌≡◌, ℕ, ◌<◌, ◌≤◌, Bool, true, false, List, length, get_or, take, map, flat_map, Option, None, refl, sym, ap, subst, ◌∙◌, arith, Decides, Place, WalkRecord, counts_of, versions_at, AreNotFalling, Notes, if_here, zero, suc, ◌+◌, cond, [], ◌∷◌, ◌++◌, drop, filter, place_in, NotFallingFrom, NotFallingOn, Versions, fits, last_at, place_key, read_as}
 use Rattle.std.specs.Prelude.{nat_eq}

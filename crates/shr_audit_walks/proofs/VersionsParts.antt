@@ -1,3 +1,4 @@
+-- SPDX-License-Identifier: GPL-2.0-only
 -- The workers of a report one after another.
 use Rattle.shr_audit_walks.proofs.VersionsCommon.{◌≡◌, ℕ, ◌<◌, ◌≤◌, Bool, true, false, List, length, get_or, flat_map, Option, Some, None, refl, sym, ap, subst, ◌∙◌, arith, slice_get, Decides, WorkerPart, Place, WalkRecord, versions_at, AreNotFalling, IsPartRising}
 use Rattle.std.proofs.lemmas.Option.{slice_get-get_or}

@@ -1,3 +1,4 @@
+-- SPDX-License-Identifier: GPL-2.0-only
 -- The highest entry that was cited at each place. No public clause cites this.
 use Rattle.std.specs.Prelude.{◌≡◌, ℕ, ◌<◌, ◌↔◌, nat_eq, cond, List, map, slice_get, Option, Some, None}
 use Rattle.std.specs.List.{AllByRecursion}

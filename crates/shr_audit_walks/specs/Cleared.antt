@@ -1,3 +1,4 @@
+-- SPDX-License-Identifier: GPL-2.0-only
 -- The places whose bits walks cleared, by their numbers. No public clause cites this.
 use Rattle.std.specs.Prelude.{◌≡◌, ℕ, true, nat_eq, cond, List, [], ◌∷◌, ◌++◌, flat_map}
 use Rattle.std.specs.declared.hash.FoldHasher.{FoldHasher}

@@ -1,3 +1,4 @@
+-- SPDX-License-Identifier: GPL-2.0-only
 -- The places that a worker's answers filled, as words of bits. No public clause cites this.
 use Rattle.std.specs.Prelude.{◌≡◌, ℕ, ◌<◌, ◌==◌, ◌&&◌, ◌||◌, not, Bool, true, false, nat_eq, cond, List, length, slice_get, take, Option, Some, None}
 use Rattle.std.specs.HashMap.{get}

@@ -1,3 +1,4 @@
+-- SPDX-License-Identifier: GPL-2.0-only
 -- The walks of a worker, as a well formed report has them. No public clause cites this.
 use Rattle.std.specs.Prelude.{ℕ, ◌<◌, ◌≤◌, List}
 use Rattle.shr_base.specs.Walks.{WalkRecord}

@@ -1,3 +1,4 @@
+-- SPDX-License-Identifier: GPL-2.0-only
 -- Scan entries of passes, by the keys of these.
 use Rattle.std.specs.Prelude.{◌<◌, List, Contains, ⊤}
 use Rattle.shr_base.specs.declared.journals.Entry.{Entry}

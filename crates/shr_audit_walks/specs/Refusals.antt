@@ -1,3 +1,4 @@
+-- SPDX-License-Identifier: GPL-2.0-only
 -- The charges that groups refused, by the commands that made them. No public clause cites this.
 use Rattle.std.specs.Prelude.{ℕ, ◌+◌, ◌*◌, ◌==◌, List, map, filter, IsPermutation}
 use Rattle.std.specs.List.Sorted.{IsNonDecreasingBy}

@@ -1,3 +1,4 @@
+-- SPDX-License-Identifier: GPL-2.0-only
 -- Walks that were made, against those that were due. No public clause cites this.
 use Rattle.std.specs.Prelude.{◌≡◌, ℕ, ◌≤◌, Bool, false, List, [], ◌∷◌, length, map, flat_map, drop, ⊤}
 use Rattle.std.specs.List.{range_with_len}

@@ -1,3 +1,4 @@
+-- SPDX-License-Identifier: GPL-2.0-only
 -- Rounds over some groups in some order. No public clause cites this.
 use Rattle.std.specs.Prelude.{◌≡◌, ℕ, ◌+◌, ◌==◌, ◌≤◌, Bool, true, false, cond, List, length, count_by, suc, Option, Some, None}
 use Rattle.std.specs.List.{AllByRecursion}

@@ -1,3 +1,4 @@
+-- SPDX-License-Identifier: GPL-2.0-only
 -- The Scan entries of lists, with the places where they stand.
 use Rattle.std.specs.Prelude.{◌≡◌, ℕ, ◌<◌, ◌^◌, ◌==◌, List, [], ◌∷◌, ◌++◌, filter, filter_map, map, slice_get, Option, Some, None}
 use Rattle.std.specs.List.{enumerate_from}

@@ -1,3 +1,4 @@
+-- SPDX-License-Identifier: GPL-2.0-only
 -- The Scan entries of a report by their passes.
 use Rattle.std.specs.List.Sorted.{IsNonDecreasingBy}
 use Rattle.shr_laws.specs.declared.report.Report.{Report}

@@ -1,3 +1,4 @@
+-- SPDX-License-Identifier: GPL-2.0-only
 -- What is known of a report before its walks are tested, and what is asked of them then.
 use Rattle.std.specs.Prelude.{◌≡◌, ℕ, List, slice_get, Some}
 use Rattle.shr_base.specs.declared.scripts.CacheDecl.{CacheDecl}

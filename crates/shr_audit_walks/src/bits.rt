@@ -1,3 +1,4 @@
+// SPDX-License-Identifier: GPL-2.0-only
 //! Whether the maps of walks have the bits of what their worker's earlier replies filled.
 
 ghost use Rattle.std.specs.Prelude.{◌≡◌, ℕ, ◌<◌, true, false, length, slice_get, Some, IfOk};
@@ -68,7 +69,7 @@ fn are_bits_seen_in(
 }
 
 /// Whether the maps of each walk have the bit of each place that an earlier reply of its worker
-/// filled, unless some walk cleared it. Our own.
+/// filled, unless some walk cleared it.
 pub fn are_bits_seen(
     alloc: Global,
     script: &Script,

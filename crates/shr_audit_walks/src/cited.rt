@@ -1,3 +1,4 @@
+// SPDX-License-Identifier: GPL-2.0-only
 //! The highest entry that was cited at each place.
 
 ghost use Rattle.std.specs.Prelude.{◌≡◌, ◌+◌, ◌<◌, ◌≤◌, length, map, IfOk, OnOk};
@@ -16,14 +17,14 @@ use shr_base::replies::{Answered, Reply};
 use std::alloc::Global;
 use std::collections::HashMap;
 
-/// A table of no entries. Our own.
+/// A table of no entries.
 pub(crate) fn none_cited(alloc: Global) -> HashMap<u64, u32>
     ensures { IsBlank result }
 {
     HashMap::new(alloc)
 }
 
-/// Whether a version is above the highest entry that was cited at a place. Our own.
+/// Whether a version is above the highest entry that was cited at a place.
 pub(crate) fn is_above_highest(cited: &HashMap<u64, u32>, place: Place, version: u32) -> bool
     ensures { Decides result (IsAboveHighest cited.now place version) }
 {
@@ -62,7 +63,7 @@ fn note_reply(cited: &mut HashMap<u64, u32>, reply: &Reply) -> Result<(), Memory
     }
 }
 
-/// Notes the entries that the answers from one to another cite. Our own.
+/// Notes the entries that the answers from one to another cite.
 pub(crate) fn note_answers(
     cited: &mut HashMap<u64, u32>,
     answers: &[Answered],

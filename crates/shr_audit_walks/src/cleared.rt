@@ -1,3 +1,4 @@
+// SPDX-License-Identifier: GPL-2.0-only
 //! The places whose bits some walk of a report cleared.
 
 ghost use Rattle.std.specs.Prelude.{◌≡◌, flat_map, OnOk, IfOk};
@@ -50,7 +51,7 @@ fn note_attempt(
     Ok(())
 }
 
-/// Notes the places whose bits a walk cleared. Our own.
+/// Notes the places whose bits a walk cleared.
 pub(crate) fn note_walk(cleared: &mut HashSet<u64>, walk: &WalkRecord) -> Result<(), Memory>
     ensures { OnOk result (Clears cleared.old cleared.new (clearings_of walk.now)) }
 {
@@ -70,7 +71,7 @@ fn note_walks(cleared: &mut HashSet<u64>, walks: &[WalkRecord]) -> Result<(), Me
     Ok(())
 }
 
-/// The places whose bits some walk of a report cleared. Our own.
+/// The places whose bits some walk of a report cleared.
 pub(crate) fn cleared_in(alloc: Global, report: &Report) -> Result<HashSet<u64>, Memory>
     ensures { IfOk result (λ cleared. HasCleared report.now cleared) }
 {
@@ -83,7 +84,7 @@ pub(crate) fn cleared_in(alloc: Global, report: &Report) -> Result<HashSet<u64>,
     Ok(cleared)
 }
 
-/// Whether some walk of the report cleared the bit of a place. Our own.
+/// Whether some walk of the report cleared the bit of a place.
 pub(crate) fn was_cleared(report: &Report, cleared: &HashSet<u64>, place: Place) -> bool
     requires { HasCleared report.now cleared.now }
     ensures { result ≡ was_cleared report.now place }

@@ -1,3 +1,4 @@
+// SPDX-License-Identifier: GPL-2.0-only
 //! The walks that each command was to make.
 
 ghost use Rattle.std.specs.Prelude.{◌≡◌, ◌<◌, ◌≤◌, ◌^◌, ℕ, length, IfOk};
@@ -30,7 +31,7 @@ use shr_laws::report::Report;
 use std::alloc::Global;
 
 /// What the walks of commands are due by: the nodes, the groups, and the charges that were refused,
-/// in the order of their commands. Our own.
+/// in the order of their commands.
 #[derive(Drop)]
 pub struct Dues {
     pub nodes: u8,
@@ -56,7 +57,7 @@ fn dues_of(alloc: Global, script: &Script, report: &Report) -> Result<Dues, Memo
 }
 
 /// Whether a command that was answered so, and of which these charges were refused, made the walks
-/// that were due. Our own.
+/// that were due.
 pub fn is_command_made(
     alloc: Global,
     dues: &Dues,
@@ -162,7 +163,7 @@ fn is_part_made(
 }
 
 /// Whether each command of a well formed report made the walks that it was to make: those that are
-/// due, with the rounds of a put, or the first of them where the answer is want of memory. Our own.
+/// due, with the rounds of a put, or the first of them where the answer is want of memory.
 pub fn are_walks_made(alloc: Global, script: &Script, report: &Report) -> Result<bool, Memory>
     requires well { IsWellFormed report.now }
     requires numbers { HasNumbers report.now }

@@ -1,3 +1,4 @@
+// SPDX-License-Identifier: GPL-2.0-only
 //! The places that a worker's answers filled, as words of bits by node, group and unit.
 
 ghost use Rattle.std.specs.Prelude.{◌≡◌, ◌≤◌, Some, length, IfOk, OnOk};
@@ -19,7 +20,7 @@ use std::alloc::Global;
 use std::collections::{HashMap, HashSet};
 use std::ops::Range;
 
-/// A table of words without a bit. Our own.
+/// A table of words without a bit.
 pub(crate) fn none_filled(alloc: Global) -> HashMap<u64, u64>
     ensures { IsNoWord result }
 {
@@ -36,7 +37,7 @@ fn word_in(filled: &HashMap<u64, u64>, key: u64) -> u64
     }
 }
 
-/// Sets the bit of a place. Our own.
+/// Sets the bit of a place.
 pub(crate) fn set_bit(filled: &mut HashMap<u64, u64>, place: Place) -> Result<(), Memory>
     ensures { OnOk result (NotesFilled filled.old filled.new (Some place)) }
 {
@@ -87,7 +88,7 @@ fn filled_by(report: &Report, case: &Case, cleared: &HashSet<u64>, reply: &Reply
     }
 }
 
-/// Notes the places that the answers to these commands filled. Our own.
+/// Notes the places that the answers to these commands filled.
 pub(crate) fn note_fillings(
     filled: &mut HashMap<u64, u64>,
     report: &Report,
@@ -113,7 +114,7 @@ pub(crate) fn note_fillings(
     Ok(())
 }
 
-/// Whether a map of a walk has the bit of each of these places that it is of. Our own.
+/// Whether a map of a walk has the bit of each of these places that it is of.
 pub(crate) fn is_map_full(filled: &HashMap<u64, u64>, walk: &WalkRecord, map: &MapSeen) -> bool
     ensures { Decides result (IsMapFull filled.now walk.now map.now) }
 {

@@ -1,3 +1,4 @@
+// SPDX-License-Identifier: GPL-2.0-only
 //! The passes of walks by one number each.
 
 ghost use Rattle.std.specs.Prelude.{◌≡◌, ◌<◌, ◌^◌};
@@ -6,7 +7,7 @@ ghost use Rattle.shr_audit_walks.specs.Keys.{key_of};
 
 use shr_base::places::Place;
 
-/// A pass by one number: of its walk, by the numbers of the worker and its own, at a place. Our own.
+/// A pass by one number: of its walk, by the numbers of the worker and its own, at a place.
 pub fn key_of(worker: u16, walk: u64, place: Place) -> u128
     ensures key { result ≡ key_of worker walk place }
     ensures few { worker < 2 ^ 16 }

@@ -1,3 +1,4 @@
+// SPDX-License-Identifier: GPL-2.0-only
 //! Whether the versions that walks read are above what their worker's earlier replies cite.
 
 ghost use Rattle.std.specs.Prelude.{◌≡◌, ℕ, ◌<◌, length, Some, IfOk};
@@ -84,7 +85,7 @@ fn are_later_in(alloc: Global, part: &WorkerPart) -> Result<bool, Memory>
 }
 
 /// Whether the counts of each walk have versions above every entry that an earlier reply of its
-/// worker cites at the place. Our own.
+/// worker cites at the place.
 pub fn are_versions_later(alloc: Global, report: &Report) -> Result<bool, Memory>
     requires { IsWellFormed report.now }
     ensures { IfOk result (λ b. Decides b (EachWalk report.now (λ worker n w.

@@ -1,3 +1,4 @@
+// SPDX-License-Identifier: GPL-2.0-only
 //! The law on walks.
 
 ghost use Rattle.std.specs.Prelude.{◌≡◌, ◌<◌, ◌≤◌, ◌^◌, ℕ, length, IfOk};
@@ -83,7 +84,7 @@ fn is_each_told(alloc: Global, script: &Script, report: &Report) -> Result<bool,
 /// Whether each walk is lawful, each command has its walks, and a worker's walks see what it did
 /// before, in a well formed report whose numbers have the ranges of their types. `case` is of the
 /// script and the report. The groups of the script are a tree, it has a node, and its commands have
-/// numbers of their types. `Memory` is want of it alone. Our own.
+/// numbers of their types. `Memory` is want of it alone.
 pub fn are_walks_lawful(
     alloc: Global,
     script: &Script,

@@ -1,12 +1,8 @@
-//! The law of a report on its walks, from its fields. Our own.
+// SPDX-License-Identifier: GPL-2.0-only
+//! The law of a report on its walks.
 //!
-//! The Scan entries of a report by their passes, and whether its walks are lawful. Our own.
-//!
-//! Whether each command of a report made the walks that it was to make. Our own.
-//!
-//! The versions that the walks of a worker read at each place. Our own.
-//!
-//! What the walks of a worker see of what its commands did before. Our own.
+//! Its Scan entries by their passes, the walks that each command had to make, and what the walks of a worker see of
+//! what its commands did before.
 #![tactic(auto)]
 
 pub mod bits;

@@ -1,3 +1,4 @@
+// SPDX-License-Identifier: GPL-2.0-only
 //! The preorder of each group.
 
 ghost use Rattle.std.specs.Prelude.{◌≡◌, ◌+◌, ◌<◌, ◌≤◌, ◌++◌, length, IfOk, OnOk};
@@ -8,7 +9,7 @@ ghost use Rattle.shr_audit_walks.specs.Orders.{AreOrdersFrom, AreSubtrees, subtr
 use shr_base::memory::Memory;
 use std::alloc::Global;
 
-/// The parents of the groups, and the preorder of each group, that of the last group first. Our own.
+/// The parents of the groups, and the preorder of each group, that of the last group first.
 #[derive(Drop)]
 pub struct Subtrees {
     pub parents: Vec<u16>,
@@ -54,7 +55,7 @@ fn orders_of(alloc: Global, parents: &[u16]) -> Result<Vec<Vec<u16>>, Memory>
 }
 
 impl Subtrees {
-    /// The subtrees of groups with these parents. Our own.
+    /// The subtrees of groups with these parents.
     pub fn of(alloc: Global, parents: Vec<u16>) -> Result<Subtrees, Memory>
         requires tree { IsTree parents.items }
         requires few { length parents.items ≤ 65536 }
@@ -65,7 +66,7 @@ impl Subtrees {
         Ok(Subtrees { parents, orders })
     }
 
-    /// The preorder of a group. Our own.
+    /// The preorder of a group.
     pub fn order(&self, group: u16) -> &[u16]
         requires are { AreSubtrees self.now }
         requires there { group < length self.now.parents.items }

@@ -1,3 +1,4 @@
+// SPDX-License-Identifier: GPL-2.0-only
 //! Whether each Scan entry of a report is of a pass.
 
 ghost use Rattle.std.specs.Prelude.{◌≡◌, ◌<◌, length, slice_get, Some, IfOk};
@@ -62,7 +63,7 @@ fn is_list_of_passes(passes: &Passes, ends: &[PlaceEnd], k: usize) -> bool
 }
 
 /// Whether there is no Scan entry of a walk but those of passes, in a report with lists in the order
-/// of their places and numbers in the ranges of their types. Our own.
+/// of their places and numbers in the ranges of their types.
 pub fn are_no_others(alloc: Global, report: &Report) -> Result<bool, Memory>
     requires order { AreInOrder report.now.places.items }
     requires numbers { HasNumbers report.now }

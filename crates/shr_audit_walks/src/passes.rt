@@ -1,3 +1,4 @@
+// SPDX-License-Identifier: GPL-2.0-only
 //! The passes of a report by their keys.
 
 ghost use Rattle.std.specs.Prelude.{◌≡◌, ◌≤◌, ◌^◌, ◌++◌, length, Contains, IfOk, OnOk};
@@ -16,7 +17,7 @@ use shr_base::walks::WalkRecord;
 use shr_laws::report::Report;
 use std::alloc::Global;
 
-/// The passes of a report, by their keys in order. Our own.
+/// The passes of a report, by their keys in order.
 #[derive(Drop)]
 pub struct Passes {
     keys: Vec<u128>,
@@ -78,7 +79,7 @@ fn keys_of(alloc: Global, report: &Report) -> Result<Vec<u128>, Memory>
 }
 
 impl Passes {
-    /// Those of a report of at most 65536 workers. Our own.
+    /// Those of a report of at most 65536 workers.
     pub fn of(alloc: Global, report: &Report) -> Result<Passes, Memory>
         requires few { length report.now.workers.items ≤ 2 ^ 16 }
         ensures { IfOk result (ArePassesOf report.now) }
@@ -88,7 +89,7 @@ impl Passes {
         Ok(Passes { keys })
     }
 
-    /// Whether the walk with this number of a worker made a pass at a place. Our own.
+    /// Whether the walk with this number of a worker made a pass at a place.
     pub fn has(&self, worker: u16, walk: u64, place: Place) -> bool
         ensures { (r : Report) → ArePassesOf r self.now
             → Decides result (Contains (keys_of_report r) (key_of worker walk place)) }

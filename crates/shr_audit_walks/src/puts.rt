@@ -1,3 +1,4 @@
+// SPDX-License-Identifier: GPL-2.0-only
 //! The walks of a put.
 
 ghost use Rattle.std.specs.Prelude.{◌≡◌, ◌<◌, ℕ, List, true, false, length, IfOk};
@@ -30,8 +31,7 @@ fn over_of(reply: &Reply) -> Option<u16>
     }
 }
 
-/// Whether a command with this answer made all walks that were due: it isn't want of memory. Our
-/// own.
+/// Whether a command with this answer made all walks that were due: it isn't want of memory.
 pub fn is_whole(reply: &Reply) -> bool
     ensures { result ≡ is_whole reply.now }
 {
@@ -111,7 +111,7 @@ fn leave_rounds(groups: &mut Vec<u16>, over: Option<u16>) -> bool
 }
 
 /// Whether the walks of a put for a group, which was answered so and of which these charges were
-/// refused, are those of its rounds. Our own.
+/// refused, are those of its rounds.
 pub fn is_put_made(
     alloc: Global,
     dues: &Dues,

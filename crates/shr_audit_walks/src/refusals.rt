@@ -1,3 +1,4 @@
+// SPDX-License-Identifier: GPL-2.0-only
 //! The charges that groups refused, by the commands that made them.
 
 ghost use Rattle.std.specs.Prelude.{◌≡◌, ◌<◌, ◌≤◌, ◌^◌, ◌++◌, [], ◌∷◌, ℕ, length, slice_get, Some, IfOk, OnOk};
@@ -12,7 +13,7 @@ use shr_base::places::Serial;
 use shr_base::scripts::Script;
 use std::alloc::Global;
 
-/// A charge that a group refused: the command by one number, and the group. Our own.
+/// A charge that a group refused: the command by one number, and the group.
 #[derive(Clone, Copy, Debug, PartialEq, Eq)]
 pub struct Refusal {
     pub key: u64,
@@ -75,7 +76,7 @@ fn refusals_in(alloc: Global, script: &Script, uses: &[UseStep]) -> Result<Vec<R
     Ok(refusals)
 }
 
-/// The refused charges, in the order of their commands. Our own.
+/// The refused charges, in the order of their commands.
 pub fn refusals_of(alloc: Global, script: &Script, uses: &[UseStep]) -> Result<Vec<Refusal>, Memory>
     ensures order { IfOk result (λ refusals. StandByKey refusals.items) }
     ensures same { IfOk result (λ refusals. AreRefusals script.now uses.now refusals.items) }
@@ -109,7 +110,7 @@ fn behind_of(refusals: &[Refusal], key: u64) -> usize
     refusals.partition_point(|refusal| refusal.key <= key)
 }
 
-/// Those of a command. Our own.
+/// Those of a command.
 pub fn refusals_by(refusals: &[Refusal], by: Serial) -> &[Refusal]
     requires { StandByKey refusals.now }
     ensures { result.now ≡ refusals_with (refusal_key by) refusals.now }

@@ -1,3 +1,4 @@
+// SPDX-License-Identifier: GPL-2.0-only
 //! Walks over groups in a row.
 
 ghost use Rattle.std.specs.Prelude.{◌≡◌, [], ◌∷◌, IfSome, IfNone};
@@ -48,7 +49,7 @@ fn behind_walk(
 }
 
 /// The walks behind those over these groups, if the walks begin with them. Where not the `whole` of
-/// them need be there, the walks may end within them. Our own.
+/// them need be there, the walks may end within them.
 pub fn behind_row<'a>(
     walks: &'a [WalkRecord],
     groups: &[u16],
@@ -70,7 +71,7 @@ pub fn behind_row<'a>(
     Some(rest)
 }
 
-/// The same of the walks of a round, which are over these groups on each node. Our own.
+/// The same of the walks of a round, which are over these groups on each node.
 pub fn behind_round<'a>(
     walks: &'a [WalkRecord],
     groups: &[u16],
@@ -99,7 +100,7 @@ pub fn behind_round<'a>(
 }
 
 /// Whether the walks are those over these groups, or the first of them where not the `whole` of them
-/// need be there. Our own.
+/// need be there.
 pub fn is_row_made(walks: &[WalkRecord], groups: &[u16], control: Control, whole: bool) -> bool
     ensures { Decides result (IsMadeAsDue whole (jobs_over control groups.now)
         (jobs_made walks.now)) }

@@ -1,3 +1,4 @@
+// SPDX-License-Identifier: GPL-2.0-only
 //! The rounds of a put, by the walks that they made.
 
 ghost use Rattle.std.specs.Prelude.{◌≡◌, ◌<◌, length};
@@ -11,7 +12,7 @@ use crate::orders::Subtrees;
 use crate::round_rows::behind_round;
 use shr_base::walks::WalkRecord;
 
-/// Takes a group out of these once, if it is among them. Our own.
+/// Takes a group out of these once, if it is among them.
 pub fn take_out(groups: &mut Vec<u16>, group: u16) -> bool
     ensures { TakesOut result group groups.old.items groups.new.items }
 {
@@ -26,7 +27,7 @@ pub fn take_out(groups: &mut Vec<u16>, group: u16) -> bool
 
 /// Whether the walks are those of rounds over these groups in some order, the first of priority 12
 /// and each next of the one below, or the first of these walks where not the `whole` of them need be
-/// there. What is left of the groups then isn't said. Our own.
+/// there. What is left of the groups then isn't said.
 pub fn are_rounds(
     subtrees: &Subtrees,
     nodes: u8,

@@ -1,3 +1,4 @@
+// SPDX-License-Identifier: GPL-2.0-only
 //! The Scan entries of a report, list by list.
 
 ghost use Rattle.std.specs.Prelude.{◌≡◌, ◌<◌, ◌++◌, length, IfOk, OnOk};
@@ -70,7 +71,7 @@ fn note_list(rows: &mut Vec<ScanSeen>, ends: &[PlaceEnd], k: usize) -> Result<()
     Ok(())
 }
 
-/// The Scan entries of a report, list by list, in the order of the journals. Our own.
+/// The Scan entries of a report, list by list, in the order of the journals.
 pub fn rows_of(alloc: Global, report: &Report) -> Result<Vec<ScanSeen>, Memory>
     requires order { AreInOrder report.now.places.items }
     requires numbers { HasNumbers report.now }

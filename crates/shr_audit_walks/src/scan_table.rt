@@ -1,3 +1,4 @@
+// SPDX-License-Identifier: GPL-2.0-only
 //! The Scan entries of a report by their passes.
 
 ghost use Rattle.std.specs.Prelude.{◌≡◌, ℕ, ◌<◌, ◌≤◌, ◌==◌, filter, length, map, slice_get, Some, IfOk};
@@ -21,8 +22,7 @@ use shr_base::places::Place;
 use shr_laws::report::Report;
 use std::alloc::Global;
 
-/// The Scan entries of a report, those of one pass together and in the order of the journal. Our
-/// own.
+/// The Scan entries of a report, those of one pass together and in the order of the journal.
 #[derive(Drop)]
 pub struct Scans {
     rows: Vec<ScanSeen>,
@@ -80,7 +80,7 @@ fn range_of(rows: &[ScanSeen], key: u128) -> &[ScanSeen]
 }
 
 impl Scans {
-    /// Those of a report whose numbers have the ranges of their types. Our own.
+    /// Those of a report whose numbers have the ranges of their types.
     pub fn of(alloc: Global, report: &Report) -> Result<Scans, Memory>
         requires order { AreInOrder report.now.places.items }
         requires numbers { HasNumbers report.now }
@@ -91,8 +91,7 @@ impl Scans {
         Ok(Scans { rows })
     }
 
-    /// Those of the walk with this number of a worker at a place, in the order of the journal. Our
-    /// own.
+    /// Those of the walk with this number of a worker at a place, in the order of the journal.
     pub fn of_pass(&self, worker: u16, walk: u64, place: Place) -> &[ScanSeen]
         requires { AreSorted self.now }
         ensures { (r : Report) → AreScansIn r self.now

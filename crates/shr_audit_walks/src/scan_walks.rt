@@ -1,3 +1,4 @@
+// SPDX-License-Identifier: GPL-2.0-only
 //! Whether each walk of a report is lawful.
 
 ghost use Rattle.std.specs.Prelude.{◌≡◌, IfOk, map};
@@ -28,7 +29,7 @@ use shr_laws::report::Report;
 use std::alloc::Global;
 
 /// What is known of a report before its walks are tested: what its journals leave, which declaration
-/// each lookup met, and the Scan entries of each pass. Our own.
+/// each lookup met, and the Scan entries of each pass.
 #[derive(Clone, Copy)]
 pub struct Known<'a> {
     pub script: &'a Script,
@@ -90,7 +91,7 @@ fn are_scanned(known: &Known, worker: u16, n: usize, walk: &WalkRecord) -> bool
     true
 }
 
-/// Whether the walk with this number of a worker is lawful. Our own.
+/// Whether the walk with this number of a worker is lawful.
 pub fn is_lawful_walk(
     alloc: Global,
     known: &Known,
@@ -137,7 +138,7 @@ fn are_lawful(
     Ok(true)
 }
 
-/// Whether each walk of a report is lawful. Our own.
+/// Whether each walk of a report is lawful.
 pub fn are_walks_each(alloc: Global, known: &Known) -> Result<bool, Memory>
     requires known { IsCaseKnown known.now }
     requires numbers { HasNumbers known.now.report.now }

@@ -1,3 +1,4 @@
+// SPDX-License-Identifier: GPL-2.0-only
 //! The last version that was read at each place.
 
 ghost use Rattle.std.specs.Prelude.{◌≡◌, ◌<◌, ◌^◌, ◌∷◌, [], IfOk};
@@ -8,14 +9,14 @@ use shr_base::places::Place;
 use std::alloc::Global;
 use std::collections::HashMap;
 
-/// A table of no versions. Our own.
+/// A table of no versions.
 pub(crate) fn no_versions(alloc: Global) -> HashMap<u64, u32>
     ensures { IsBlank result }
 {
     HashMap::new(alloc)
 }
 
-/// A place by one number. Our own.
+/// A place by one number.
 pub fn place_key(place: Place) -> u64
     ensures key { result ≡ place_key place }
     ensures group { place.group < 2 ^ 16 }
@@ -36,7 +37,6 @@ fn last_at(versions: &HashMap<u64, u32>, place: Place) -> u32
 }
 
 /// Notes that a version was read at a place, and answers whether it isn't below the last one there.
-/// Our own.
 pub(crate) fn note(
     versions: &mut HashMap<u64, u32>,
     place: Place,
@@ -53,7 +53,7 @@ pub(crate) fn note(
     Ok(true)
 }
 
-/// The same of two versions, one after the other. Our own.
+/// The same of two versions, one after the other.
 pub(crate) fn note_two(
     versions: &mut HashMap<u64, u32>,
     place: Place,

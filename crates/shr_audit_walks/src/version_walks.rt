@@ -1,3 +1,4 @@
+// SPDX-License-Identifier: GPL-2.0-only
 //! The versions of the counts of walks.
 
 ghost use Rattle.std.specs.Prelude.{◌≡◌, flat_map, map, IfOk};
@@ -15,7 +16,7 @@ use shr_base::walks::{Outcome, WalkRecord};
 use std::alloc::Global;
 use std::collections::HashMap;
 
-/// The place of an id on the walk's node and in its group. Our own.
+/// The place of an id on the walk's node and in its group.
 pub fn place_in(walk: &WalkRecord, id: u16) -> Place
     ensures { result ≡ place_in walk.now id }
 {
@@ -61,7 +62,7 @@ fn note_walk(versions: &mut HashMap<u64, u32>, walk: &WalkRecord) -> Result<bool
     Ok(true)
 }
 
-/// Whether the versions that these walks read at each place never fall. Our own.
+/// Whether the versions that these walks read at each place never fall.
 pub fn walks_never_fall(alloc: Global, walks: &[WalkRecord]) -> Result<bool, Memory>
     ensures { IfOk result (λ b. Decides b ((place : Place)
         → AreNotFalling (flat_map (versions_at place) walks.now))) }

@@ -1,3 +1,4 @@
+// SPDX-License-Identifier: GPL-2.0-only
 //! The versions that the walks of each worker of a report read.
 
 ghost use Rattle.std.specs.Prelude.{◌≡◌, ℕ, flat_map, IfOk};
@@ -12,7 +13,7 @@ use shr_base::memory::Memory;
 use shr_laws::report::Report;
 use std::alloc::Global;
 
-/// Whether the counts of each worker at each place have versions that never fall. Our own.
+/// Whether the counts of each worker at each place have versions that never fall.
 pub fn versions_never_fall(alloc: Global, report: &Report) -> Result<bool, Memory>
     ensures { IfOk result (λ b. Decides b ((worker : ℕ) (place : Place)
         → AreNotFalling (flat_map (versions_at place) (walks_of report.now worker)))) }

@@ -1,3 +1,4 @@
+-- SPDX-License-Identifier: GPL-2.0-only
 -- What a contract sees of what a walk found.
 use Rattle.std.specs.Prelude.{[]}
 use Rattle.shr_base.specs.Kept.{Kept}

@@ -1,3 +1,4 @@
+-- SPDX-License-Identifier: GPL-2.0-only
 -- How an attempt keeps its outcome, and a pass its ending. No public clause cites this module.
 use Rattle.std.specs.Prelude.{ℕ}
 use Rattle.shr_base.specs.declared.places.Place.{Place}

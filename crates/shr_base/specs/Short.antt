@@ -1,3 +1,4 @@
+-- SPDX-License-Identifier: GPL-2.0-only
 -- How a text keeps its bytes. No public clause cites this module.
 use Rattle.std.specs.Prelude.{ℕ, List, take, ◌≤◌}
 use Rattle.std.specs.Arc.{arc_slice_items}

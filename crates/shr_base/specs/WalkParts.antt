@@ -1,3 +1,4 @@
+-- SPDX-License-Identifier: GPL-2.0-only
 -- A walk's record and its answer of their parts.
 use Rattle.std.specs.Prelude.{ℕ, List, ◌<◌, ◌^◌}
 use Rattle.shr_base.specs.KeptLists.{kept}

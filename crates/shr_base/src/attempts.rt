@@ -1,3 +1,4 @@
+// SPDX-License-Identifier: GPL-2.0-only
 //! The attempts of walks.
 
 ghost use Rattle.std.specs.Prelude.{◌≡◌, ℕ};
@@ -70,7 +71,7 @@ fn gone(then: GoneThen) -> Kind
 }
 
 impl Attempt {
-    /// An attempt at this id that came to this. Our own.
+    /// An attempt at this id that came to this.
     pub fn new(id: u16, outcome: Outcome) -> Attempt
         ensures { result ≡ record { id = id; outcome = outcome } }
     {
@@ -120,7 +121,7 @@ impl Attempt {
         }
     }
 
-    /// What it came to. Our own.
+    /// What it came to.
     #[inline(always)]
     pub fn outcome(&self) -> Outcome
         ensures { result ≡ self.now.outcome }

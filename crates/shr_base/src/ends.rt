@@ -1,4 +1,5 @@
-//! What is left when a run has ended. Our own.
+// SPDX-License-Identifier: GPL-2.0-only
+//! What is left when a run has ended.
 
 use crate::items::Items;
 use crate::journals::{Entry, PlainEntry, PoolEntry, TreeEntry};
@@ -28,7 +29,7 @@ pub struct PlaceAmount {
     pub amount: u64,
 }
 
-/// A list at the end of a run: its journal, and its items from the head. Our own.
+/// A list at the end of a run: its journal, and its items from the head.
 #[derive(Drop)]
 pub struct PlaceEnd {
     pub place: Place,
@@ -48,7 +49,7 @@ pub struct MapEnd {
 }
 
 /// What the core table leaves: the journal of registrations, each place with a journal by id, node
-/// and group, each bit word by node, group and unit, and each id's number of lookups. Our own.
+/// and group, each bit word by node, group and unit, and each id's number of lookups.
 #[derive(Drop)]
 pub struct Closed {
     pub pool: Log<PoolEntry>,
@@ -57,14 +58,14 @@ pub struct Closed {
     pub lookups: Log<u32>,
 }
 
-/// What the charge table leaves: the journal of the tree, and each group's usage word. Our own.
+/// What the charge table leaves: the journal of the tree, and each group's usage word.
 #[derive(Drop)]
 pub struct ChargeEnd {
     pub tree: Log<TreeEntry>,
     pub usage: Log<u64>,
 }
 
-/// A pool's journal on one node at the end of a run, and the units that are free then. Our own.
+/// A pool's journal on one node at the end of a run, and the units that are free then.
 #[derive(Drop)]
 pub struct UnitsEnd {
     pub pool: u8,
@@ -74,7 +75,7 @@ pub struct UnitsEnd {
 }
 
 /// What one worker did: an answer for each command, its walks, its carries, its walks of the pools
-/// and its isolations, each in order. Our own.
+/// and its isolations, each in order.
 #[derive(Drop)]
 pub struct WorkerPart {
     pub answers: Log<Answered>,

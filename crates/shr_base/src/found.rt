@@ -1,3 +1,4 @@
+// SPDX-License-Identifier: GPL-2.0-only
 //! What a walk found.
 
 ghost use Rattle.std.specs.Prelude.{◌≡◌, ◌+◌, ◌<◌, ◌≤◌, ◌++◌, ◌∷◌, [], IfOk, OnOk};
@@ -25,7 +26,7 @@ enum Few {
 }
 
 /// The maps that a walk loaded, and its attempts. Most walks load one map and try nothing: that
-/// takes no memory. Contracts see both as lists with their spare. Our own.
+/// takes no memory. Contracts see both as lists with their spare.
 #[derive(Drop)]
 pub struct Found {
     few: Few,
@@ -61,7 +62,7 @@ fn lists_of(
 }
 
 impl Found {
-    /// No map and no attempt. It takes no memory. Our own.
+    /// No map and no attempt. It takes no memory.
     pub fn new() -> Found
         ensures maps { result.maps.items ≡ [] }
         ensures attempts { result.attempts.items ≡ [] }
@@ -69,7 +70,7 @@ impl Found {
         Found { few: Few::Nothing }
     }
 
-    /// The maps and attempts of these lists, in as little memory as it can. Our own.
+    /// The maps and attempts of these lists, in as little memory as it can.
     pub fn of(alloc: Global, maps: Log<MapSeen>, attempts: Log<Attempt>) -> Result<Found, Memory>
         ensures maps { IfOk result (λ found. found.maps.items ≡ maps.items) }
         ensures attempts { IfOk result (λ found. found.attempts.items ≡ attempts.items) }
@@ -91,7 +92,7 @@ impl Found {
         })
     }
 
-    /// The maps. Our own.
+    /// The maps.
     pub fn maps(&self) -> &[MapSeen]
         ensures { result.now ≡ self.now.maps.items }
     {
@@ -102,7 +103,7 @@ impl Found {
         }
     }
 
-    /// The attempts. Our own.
+    /// The attempts.
     pub fn attempts(&self) -> &[Attempt]
         ensures { result.now ≡ self.now.attempts.items }
     {
@@ -112,7 +113,7 @@ impl Found {
         }
     }
 
-    /// Makes room for one map more. The maps and attempts stay, on `Memory` too. Our own.
+    /// Makes room for one map more. The maps and attempts stay, on `Memory` too.
     pub fn reserve_map(&mut self, alloc: Global) -> Result<(), Memory>
         ensures maps { self.new.maps.items ≡ self.old.maps.items }
         ensures attempts { self.new.attempts.items ≡ self.old.attempts.items }
@@ -129,7 +130,7 @@ impl Found {
         Ok(())
     }
 
-    /// Puts another map at the end, in the room that was made for it. Our own.
+    /// Puts another map at the end, in the room that was made for it.
     pub fn push_map(&mut self, map: MapSeen)
         requires { 0 < self.old.maps.spare }
         ensures maps { self.new.maps.items ≡ self.old.maps.items ++ map ∷ [] }
@@ -141,8 +142,7 @@ impl Found {
         }
     }
 
-    /// Makes room for just so many attempts more. The maps and attempts stay, on `Memory` too. Our
-    /// own.
+    /// Makes room for just so many attempts more. The maps and attempts stay, on `Memory` too.
     pub fn reserve(&mut self, alloc: Global, more: usize) -> Result<(), Memory>
         ensures maps { self.new.maps.items ≡ self.old.maps.items }
         ensures attempts { self.new.attempts.items ≡ self.old.attempts.items }
@@ -165,7 +165,7 @@ impl Found {
         Ok(())
     }
 
-    /// Puts another attempt at the end, in the room that was made for it. Our own.
+    /// Puts another attempt at the end, in the room that was made for it.
     pub fn push(&mut self, attempt: Attempt)
         requires { 0 < self.old.attempts.spare }
         ensures maps { self.new.maps.items ≡ self.old.maps.items }

@@ -1,3 +1,4 @@
+// SPDX-License-Identifier: GPL-2.0-only
 //! The objects of a list at rest.
 
 ghost use Rattle.std.specs.Prelude.{◌≡◌, [], ◌∷◌, length, IfSome, IfNone};
@@ -21,7 +22,7 @@ pub struct Node {
 }
 
 /// The objects of a list that has ended, from the head. They stay where they lay while it ran: each
-/// node names the next. Contracts see them as those of a list with no spare. Our own.
+/// node names the next. Contracts see them as those of a list with no spare.
 #[derive(Drop)]
 pub struct Items {
     nodes: Slab<Node>,
@@ -44,7 +45,7 @@ impl Model for Items {
 }
 
 impl Items {
-    /// No objects. It takes no memory. Our own.
+    /// No objects. It takes no memory.
     pub fn new(alloc: Global) -> Items
         ensures { result.items ≡ [] }
     {
@@ -54,7 +55,7 @@ impl Items {
         }
     }
 
-    /// The objects in these nodes, from the head on, of which each node is one. Our own.
+    /// The objects in these nodes, from the head on, of which each node is one.
     pub fn of(nodes: Slab<Node>, head: Option<u32>) -> Items
         requires { length (objects_from nodes (slab_len nodes) head) ≡ slab_len nodes }
         ensures { result.items ≡ objects_from nodes (slab_len nodes) head }
@@ -62,14 +63,14 @@ impl Items {
         Items { nodes, head }
     }
 
-    /// The number of objects. Our own.
+    /// The number of objects.
     pub fn len(&self) -> usize
         ensures { result ≡ length self.now.items }
     {
         self.nodes.len()
     }
 
-    /// A walk over the objects from the head. Our own.
+    /// A walk over the objects from the head.
     pub fn walk(&self) -> Walk
         ensures { result ≡ self.now.items }
     {
@@ -81,7 +82,7 @@ impl Items {
     }
 }
 
-/// A walk over objects, which contracts see as those that it has not met yet. Our own.
+/// A walk over objects, which contracts see as those that it has not met yet.
 #[derive(Drop)]
 pub struct Walk<'a> {
     nodes: &'a Slab<Node>,
@@ -100,7 +101,7 @@ impl<'a> Model for Walk<'a> {
 }
 
 impl<'a> Walk<'a> {
-    /// The next object. Our own.
+    /// The next object.
     pub fn next(&mut self) -> Option<&'a Object>
         ensures met { IfSome result (λ o. self.old ≡ o.now ∷ self.new) }
         ensures ended { IfNone result (self.old ≡ []) }

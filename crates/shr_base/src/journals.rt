@@ -1,10 +1,11 @@
+// SPDX-License-Identifier: GPL-2.0-only
 //! The entries of journals. Our own: Linux keeps no journal.
 
 use crate::objects::Policy;
 use crate::places::Serial;
 use crate::text::Text;
 
-/// What a `Drop` entry did. Our own.
+/// What a `Drop` entry did.
 #[derive(Clone, Copy, Debug, PartialEq, Eq)]
 pub enum DropKind {
     /// The object was there, unpinned, and was taken out.
@@ -15,7 +16,7 @@ pub enum DropKind {
     Miss,
 }
 
-/// An entry of the journal of one list. Our own.
+/// An entry of the journal of one list.
 #[derive(Drop)]
 pub enum Entry {
     Add {
@@ -90,7 +91,7 @@ pub enum TreeEntry {
     Made { group: u16 },
 }
 
-/// An entry of the journal of one pool on one node. Our own.
+/// An entry of the journal of one pool on one node.
 #[derive(Clone, Copy, Debug, PartialEq, Eq)]
 pub enum PlainEntry {
     /// So many units became free.

@@ -1,3 +1,4 @@
+// SPDX-License-Identifier: GPL-2.0-only
 //! Plain types, growable lists and texts: what every crate of the runtime stands on.
 //!
 //! The kernel's words for them: a group is a memory cgroup (`struct mem_cgroup`), a node a NUMA

@@ -1,3 +1,4 @@
+// SPDX-License-Identifier: GPL-2.0-only
 //! What a cache keeps, and how a scan decides about it.
 
 use crate::places::Serial;
@@ -20,7 +21,7 @@ pub struct Object {
     pub pinned: bool,
 }
 
-/// What a cache's scan does with an object, as its `isolate` callback. Our own.
+/// What a cache's scan does with an object, as its `isolate` callback.
 #[derive(Clone, Copy, Debug, PartialEq, Eq)]
 pub enum Policy {
     /// Every object is removed.

@@ -1,3 +1,4 @@
+// SPDX-License-Identifier: GPL-2.0-only
 //! Numbers, endings and passes in as few bytes as they need: a run keeps each of its attempts.
 
 ghost use Rattle.std.specs.Prelude.{◌≡◌};
@@ -12,7 +13,7 @@ use std::marker::Model;
 // What the high half of a number counts.
 const HALF: u64 = 1 << 32;
 
-/// A number of 64 bits that is aligned as one of 32. Our own.
+/// A number of 64 bits that is aligned as one of 32.
 #[derive(Drop)]
 pub(crate) struct Wide {
     high: u32,
@@ -55,7 +56,7 @@ enum EndingKind {
     Charges,
 }
 
-/// An ending. Our own.
+/// An ending.
 #[derive(Drop)]
 pub(crate) struct ShortEnding {
     kind: EndingKind,
@@ -148,7 +149,7 @@ impl ShortEnding {
     }
 }
 
-/// A pass. Our own.
+/// A pass.
 #[derive(Drop)]
 pub(crate) struct ShortPass {
     pub(crate) len: u32,
@@ -171,7 +172,7 @@ impl Model for ShortPass {
 }
 
 impl ShortPass {
-    /// A pass of this many, at this version, that did nothing. Our own.
+    /// A pass of this many, at this version, that did nothing.
     pub(crate) fn unmade(len: u32, version: u32) -> ShortPass
         ensures { result ≡ unmade len version }
     {
@@ -188,7 +189,7 @@ impl ShortPass {
         }
     }
 
-    /// The same pass. Our own.
+    /// The same pass.
     pub(crate) fn of(pass: &PassRecord) -> ShortPass
         ensures { result ≡ pass.now }
     {
@@ -205,7 +206,7 @@ impl ShortPass {
         }
     }
 
-    /// The same pass. Our own.
+    /// The same pass.
     pub(crate) fn get(&self) -> PassRecord
         ensures { result ≡ self.now }
     {

@@ -1,9 +1,10 @@
-//! What a command is answered. Our own.
+// SPDX-License-Identifier: GPL-2.0-only
+//! What a command is answered.
 
 use crate::places::{At, Place};
 use crate::text::Text;
 
-/// Which counter of stated size is used up, with its numbers. Our own.
+/// Which counter of stated size is used up, with its numbers.
 #[derive(Clone, Copy, Debug, PartialEq, Eq)]
 pub enum Spent {
     /// The lookups of an id: this many were seen.
@@ -24,7 +25,7 @@ pub enum Spent {
     },
 }
 
-/// Why an `unregister` stopped half way. Our own.
+/// Why an `unregister` stopped half way.
 #[derive(Clone, Copy, Debug, PartialEq, Eq)]
 pub enum HalfWhy {
     Memory,
@@ -47,7 +48,7 @@ pub enum IsolateEnd {
 }
 
 /// The id that a command's cache was held with, the number of that lookup, and how many entries of
-/// the journal of registrations had been seen. Our own.
+/// the journal of registrations had been seen.
 #[derive(Clone, Copy, Debug, PartialEq, Eq)]
 pub struct Found {
     pub id: u16,
@@ -55,7 +56,7 @@ pub struct Found {
     pub entry: u32,
 }
 
-/// The answer to a command. Our own.
+/// The answer to a command.
 #[derive(Drop)]
 pub enum Reply {
     Added {
@@ -180,7 +181,7 @@ pub enum Reply {
     },
 }
 
-/// An answer, with what `find` gave if the cache was held. Our own.
+/// An answer, with what `find` gave if the cache was held.
 #[derive(Drop)]
 pub struct Answered {
     pub reply: Reply,

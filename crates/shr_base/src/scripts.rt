@@ -1,4 +1,5 @@
-//! A script: the tree of groups, the declarations of caches, and each worker's commands. Our own.
+// SPDX-License-Identifier: GPL-2.0-only
+//! A script: the tree of groups, the declarations of caches, and each worker's commands.
 
 use crate::log::Log;
 use crate::objects::Policy;
@@ -55,14 +56,14 @@ pub struct PoolDecl {
     pub flat: bool,
 }
 
-/// The walk of every group on every node that a script's last line but one may ask for. Our own.
+/// The walk of every group on every node that a script's last line but one may ask for.
 #[derive(Clone, Copy, Debug, PartialEq, Eq)]
 pub struct Sweep {
     pub priority: u8,
     pub nofs: bool,
 }
 
-/// What a command does with the object of a key, if there is one. Our own.
+/// What a command does with the object of a key, if there is one.
 #[derive(Clone, Copy, Debug, PartialEq, Eq)]
 pub enum Act {
     Get,
@@ -70,7 +71,7 @@ pub enum Act {
     SetPin { pinned: bool },
 }
 
-/// A command of a worker. Our own.
+/// A command of a worker.
 #[derive(Drop)]
 pub enum Command {
     Put {
@@ -121,13 +122,13 @@ pub enum Command {
     },
 }
 
-/// The commands of one worker, in order. Our own.
+/// The commands of one worker, in order.
 #[derive(Drop)]
 pub struct WorkerScript {
     pub commands: Log<Command>,
 }
 
-/// A whole script. Our own.
+/// A whole script.
 #[derive(Drop)]
 pub struct Script {
     /// 1 or 2: which limits it keeps, and how its report is written.
@@ -142,7 +143,7 @@ pub struct Script {
     pub sweep: Option<Sweep>,
 }
 
-/// What is wrong with a line of a script. Our own.
+/// What is wrong with a line of a script.
 #[derive(Clone, Copy, Debug, PartialEq, Eq)]
 pub enum Code {
     BadHeader,

@@ -1,3 +1,4 @@
+// SPDX-License-Identifier: GPL-2.0-only
 //! The records of walks and of the passes that they make.
 
 ghost use Rattle.std.specs.Prelude.{◌≡◌};
@@ -55,7 +56,7 @@ pub enum GoneThen {
     Root,
 }
 
-/// What an attempt of a walk at one id came to. `number` is that of its lookup. Our own.
+/// What an attempt of a walk at one id came to. `number` is that of its lookup.
 #[derive(Clone, Copy, Debug, PartialEq, Eq)]
 pub enum Outcome {
     Worn {
@@ -170,7 +171,7 @@ impl Model for WalkRecord {
 
 impl WalkRecord {
     /// The record of a walk that was asked this, found this and was given this answer. It takes no
-    /// memory. Our own.
+    /// memory.
     pub fn new(asked: WalkAsked, found: Found, answer: WalkAnswer) -> WalkRecord
         ensures { result ≡ walk_record asked found.maps.items found.attempts.items answer }
     {
@@ -191,21 +192,21 @@ impl WalkRecord {
         }
     }
 
-    /// The bit words that it loaded, in the order of their units. Our own.
+    /// The bit words that it loaded, in the order of their units.
     pub fn maps(&self) -> &[MapSeen]
         ensures { result.now ≡ self.now.maps.items }
     {
         self.found.maps()
     }
 
-    /// Its attempts, in their order. Our own.
+    /// Its attempts, in their order.
     pub fn attempts(&self) -> &[Attempt]
         ensures { result.now ≡ self.now.attempts.items }
     {
         self.found.attempts()
     }
 
-    /// What it was answered. Our own.
+    /// What it was answered.
     pub fn answer(&self) -> WalkAnswer
         ensures { result ≡ self.now.answer }
     {
@@ -229,7 +230,7 @@ pub struct Carry {
     pub amount: u64,
 }
 
-/// What a walk of the pools came to at one pool. Our own.
+/// What a walk of the pools came to at one pool.
 #[derive(Clone, Copy, Debug, PartialEq, Eq)]
 pub enum PlainTry {
     Empty { version: u32 },
@@ -237,7 +238,7 @@ pub enum PlainTry {
     Ran { pass: PassRecord },
 }
 
-/// What a walk of the pools is answered. Our own.
+/// What a walk of the pools is answered.
 #[derive(Clone, Copy, Debug, PartialEq, Eq)]
 pub enum PlainAnswer {
     Walked { freed: u64 },

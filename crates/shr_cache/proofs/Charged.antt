@@ -1,3 +1,4 @@
+-- SPDX-License-Identifier: GPL-2.0-only
 -- What a put did, by the reply that tells of it.
 use Rattle.shr_cache.proofs.Common.{◌≡◌, ℕ, List, true, false, sym, Object, Serial, Found, Reply, None, Option, Some, fresh, same_for, same_then, Acting, IsSame, Shared, WorkerState, Uncharges, IsStill, LoadsWord, MayCharge, OfferedAs, Puts, PutAs}
 use Rattle.shr_base.specs.declared.places.Target.{Target}

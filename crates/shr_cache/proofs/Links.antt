@@ -1,3 +1,4 @@
+-- SPDX-License-Identifier: GPL-2.0-only
 -- Each step from the seats before it to those after it.
 use Rattle.shr_cache.proofs.Common.{◌≡◌, ◌<◌, ℕ, List, ap, sym, subst, ◌∙◌, shape_of, Serial, Found, Reply, Some, View, NodeAnswer, AsksList, answer_reply, view_of, Shared, WorkerState, state_of, OnCache, Uncharges, IsFit, AreHolding, Opens, Calls}
 use Rattle.shr_base.specs.Kept.{Kept}

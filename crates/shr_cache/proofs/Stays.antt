@@ -1,3 +1,4 @@
+-- SPDX-License-Identifier: GPL-2.0-only
 -- What a call on a list leaves of a view, whatever it answered.
 use Rattle.shr_cache.proofs.Common.{ℕ, List, Object, View, NodeAnswer, TenantGives}
 use Rattle.shr_base.specs.declared.journals.Entry.{Entry}

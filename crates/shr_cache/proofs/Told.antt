@@ -1,3 +1,4 @@
+-- SPDX-License-Identifier: GPL-2.0-only
 -- What a del did, by whether the object was dropped.
 use Rattle.shr_cache.proofs.Common.{◌≡◌, ℕ, Bool, true, false, List, Serial, Found, Reply, None, Option, Some, sym, subst, refl, Shared, WorkerState, Uncharges, MayCharge, AsksToDrop, DroppedAs, UnchargesIf}
 use Rattle.shr_base.specs.declared.replies.Reply.TheVariants as reply

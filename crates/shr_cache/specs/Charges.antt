@@ -1,3 +1,4 @@
+-- SPDX-License-Identifier: GPL-2.0-only
 -- What stays of a worker where nothing is charged. No public clause cites this.
 use Rattle.std.specs.Prelude.{◌≡◌}
 use Rattle.shr_walk.specs.Acting.{Acting}

@@ -1,3 +1,4 @@
+-- SPDX-License-Identifier: GPL-2.0-only
 -- What a get does, by its answer.
 use Rattle.std.specs.Prelude.{ℕ, List}
 use Rattle.shr_base.specs.declared.places.Serial.{Serial}

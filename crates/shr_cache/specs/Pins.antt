@@ -1,3 +1,4 @@
+-- SPDX-License-Identifier: GPL-2.0-only
 -- What a set_pin does, by its answer.
 use Rattle.std.specs.Prelude.{ℕ, Bool, List}
 use Rattle.shr_base.specs.declared.places.Serial.{Serial}

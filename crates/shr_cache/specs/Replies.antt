@@ -1,3 +1,4 @@
+-- SPDX-License-Identifier: GPL-2.0-only
 -- What the answers of a list are as replies, and what a command did that asks a list.
 use Rattle.std.specs.Prelude.{◌≡◌, ℕ, Bool, true, false, List, Option, None, Some}
 use Rattle.shr_base.specs.declared.journals.DropKind.{DropKind}

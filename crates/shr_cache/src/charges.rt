@@ -1,3 +1,4 @@
+// SPDX-License-Identifier: GPL-2.0-only
 //! Taking a charge back.
 
 ghost use Rattle.std.specs.Prelude.{◌<◌};
@@ -10,7 +11,7 @@ ghost use Rattle.shr_cache.specs.Opening.{Uncharges};
 use shr_walk::worker::Worker;
 use std::sync::Wait;
 
-/// Uncharges an object of a group, in the room that was made to note it. Our own.
+/// Uncharges an object of a group, in the room that was made to note it.
 pub(crate) fn uncharge<R: Wait>(worker: &mut Worker<'_, R>, group: u16)
     requires group { group < groups_in (shape_of worker.old.shared.core) }
     requires room { CanTakeBack group worker.old }

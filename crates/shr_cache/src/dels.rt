@@ -1,3 +1,4 @@
+// SPDX-License-Identifier: GPL-2.0-only
 //! Taking an object out.
 
 ghost use Rattle.std.specs.Prelude.{◌≡◌};

@@ -1,3 +1,4 @@
+// SPDX-License-Identifier: GPL-2.0-only
 //! Looking an object up.
 
 ghost use Rattle.std.specs.Prelude.{◌≡◌};

@@ -1,3 +1,4 @@
+// SPDX-License-Identifier: GPL-2.0-only
 //! A tenant's commands on a cache: put, get, del and set_pin, with what they charge.
 //!
 //! The opening of a command on a cache: the load of its group's word, and finding the cache.

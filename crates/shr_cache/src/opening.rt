@@ -1,3 +1,4 @@
+// SPDX-License-Identifier: GPL-2.0-only
 //! What the commands share: the load of the group's word, and finding the cache.
 
 ghost use Rattle.std.specs.Prelude.{◌≡◌, ◌<◌};
@@ -15,7 +16,7 @@ use shr_registry::finding::find;
 use shr_walk::seats::{Seats, Shared};
 use std::sync::Wait;
 
-/// What came of looking for a command's cache. Our own.
+/// What came of looking for a command's cache.
 #[derive(Drop)]
 pub enum Opened {
     /// The cache's id is held.
@@ -49,7 +50,7 @@ pub fn find_cache<R: Wait>(rt: &R, shared: &Shared, seats: &mut Seats<'_>, decl:
 }
 
 /// Loads the word of the group, and finds the cache if the group is online; it refuses if the
-/// group is offline or isn't made. Our own.
+/// group is offline or isn't made.
 pub fn open<R: Wait>(rt: &R, shared: &Shared, seats: &mut Seats<'_>, group: u16, decl: u8) -> Opened
     requires shared { IsShared shared.now }
     requires cache { (group < groups_in (shape_of shared.now.core))

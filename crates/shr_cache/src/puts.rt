@@ -1,3 +1,4 @@
+// SPDX-License-Identifier: GPL-2.0-only
 //! Adding an object.
 
 ghost use Rattle.std.specs.Prelude.{◌≡◌};

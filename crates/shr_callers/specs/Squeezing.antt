@@ -1,3 +1,4 @@
+-- SPDX-License-Identifier: GPL-2.0-only
 -- How hard the buffers are squeezed.
 use Rattle.shr_arith.specs.declared.passes.Pressure.{Pressure}
 

@@ -1,3 +1,4 @@
+// SPDX-License-Identifier: GPL-2.0-only
 //! Callers of the parts, as `docs/LIBRARY.md` describes them: what a program of one's own may copy.
 #![tactic(auto)]
 

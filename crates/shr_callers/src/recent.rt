@@ -1,3 +1,4 @@
+// SPDX-License-Identifier: GPL-2.0-only
 //! A list with its journal, in one thread's hand: the oldest objects go.
 
 ghost use Rattle.shr_callers.specs.Trimming.{TrimGives};
@@ -6,7 +7,7 @@ use shr_base::objects::Policy;
 use shr_list::answers::ListScan;
 use shr_list::list::List;
 
-/// What `trim_to` answers. Our own.
+/// What `trim_to` answers.
 #[derive(Clone, Copy, Debug, PartialEq, Eq)]
 pub enum Trimmed {
     /// So many objects were freed from the head.

@@ -1,10 +1,11 @@
+// SPDX-License-Identifier: GPL-2.0-only
 //! The callers at known values.
 
 use crate::bounded::{Added, Cache};
 use crate::spares::{Spares, squeeze};
+use shr_arith::passes::Pass;
 use shr_base::text::Text;
 use shr_list::answers::LookAnswer;
-use shr_arith::passes::Pass;
 use std::alloc::Global;
 use std::test::Fail;
 

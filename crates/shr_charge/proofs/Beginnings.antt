@@ -1,3 +1,4 @@
+-- SPDX-License-Identifier: GPL-2.0-only
 -- The rule at the start.
 use Rattle.shr_charge.proofs.Common.{◌≡◌, ◌≢◌, ℕ, ◌+◌, ◌*◌, ◌^◌, ◌%◌, ◌<◌, ◌≤◌, Bool, true, false, not, ◌||◌, cond, List, [], ◌∷◌, length, get_or, sym, refl, ◌∙◌, arith, Some, None, All, IsHierarchy, is_later, hierarchy_of, Online, NotMade, AreFirstGroupWords, All-nil, some, opening, Kept, TreeEntry, Each, Each-push, not_gone, View, Shape, Uses, own_uses, no_tree, AreUsed, IsPaced, StandsInHistory, IsOfflined, IsTreeSeen, count_of_entries, is_open, opens, sum_below, state_word, IsChargeSound, first_charge_view, spent_charge_view, usage_in, usage_index, group_in, lock_in, some-ne-none, at_first, AreSeats-first}
 use Rattle.shr_charge.proofs.Pacing.{paced_own}

@@ -1,3 +1,4 @@
+-- SPDX-License-Identifier: GPL-2.0-only
 -- Going up a path, level by level.
 use Rattle.shr_charge.proofs.Common.{◌≡◌, ◌≢◌, ℕ, ◌+◌, ◌*◌, ◌<◌, ◌≤◌, ◌^◌, Bool, true, false, not, ◌&&◌, eqb, ltb, cond, List, [], ◌∷◌, ◌++◌, map, length, sym, refl, ap, subst, ◌∙◌, arith, append_assoc, length-append, ne_eqb, pos, Some, None, All, nat_tests, append-nil, length-map, sum_by_push, All-push, All-nil, Kept, UseStep, Serial, IsTree, parent_of, depth_of, ChargeSeated, Shape, Uses, both_uses, one_use, IsPaced, ups_at, downs_at, path_to, uses_of, tree_of, standing_of, call_count, use_group, IsLaterThan, AreRising, IsUp, calls_with, IsClimbing, Climbs, IsLowering, Lowers, ◌<ℤ◌, map_push, All-get_or, IsBelow, shape_limit, IsDown, IsNoted}
 use Rattle.std.proofs.lemmas.List.Quantifiers.{all_pairs_push}

@@ -1,3 +1,4 @@
+-- SPDX-License-Identifier: GPL-2.0-only
 -- The Begin and the Done of a group in a journal that grows, and sums over groups.
 use Rattle.shr_charge.proofs.Common.{◌≡◌, ℕ, zero, suc, ◌+◌, ◌*◌, ◌<◌, ◌≤◌, ◌≢◌, ◌-◌, Bool, true, false, not, ◌&&◌, ◌||◌, eqb, cond, List, [], ◌∷◌, ◌++◌, length, take, drop, sym, refl, ap, subst, ◌∙◌, ⊎_elim, arith, eq-eqb, Option, Some, None, slice_get, position_from, option_or, is_some, is_none, cases_Bool, eqb-true, take-append-drop, TreeEntry, Begin, Done, Made, is_begin, is_done, is_making, begin_of, done_of, made_of, is_made, MayBegin, IsTreeJournal, Hierarchy, is_later, sum_below, count_of_entries, is_open, opens}
 use Rattle.shr_charge.proofs.Listing.{get_below, position-append, position-at}

@@ -1,3 +1,4 @@
+-- SPDX-License-Identifier: GPL-2.0-only
 -- What the words and the room are once all other seats were joined.
 use Rattle.shr_charge.proofs.Common.{◌≡◌, ℕ, true, false, cond, List, map, length, sym, refl, ap, subst, ◌∙◌, arith, sum_by, range_with_len, some, get_elem?, Final, Seen, at_map, Kept, TreeEntry, View, Shape, Uses, TreeView, usage_word, times_at, hierarchy_of, times_noted, IsChargeSound, usage_in, uses_in, tree_in, charge_standing_in, spent_charge_view, some-injective, IsWhole, sum_by-sole, sum_by-map, range_same}
 use Rattle.shr_charge.specs.Ends.{IsTreeJournalOf, IsEndOf}

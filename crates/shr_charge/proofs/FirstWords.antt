@@ -1,3 +1,4 @@
+-- SPDX-License-Identifier: GPL-2.0-only
 -- The words of a new table, group by group.
 use Rattle.shr_charge.proofs.Common.{◌≡◌, ◌≢◌, ℕ, ◌+◌, ◌*◌, ◌%◌, ◌^◌, ◌<◌, ◌≤◌, ◌⊎◌, inl, inr, ⊎_elim, Bool, true, false, cond, List, length, replicate, set, get_or, sym, ap, subst, ◌∙◌, arith, length-set, get_or-set_same, get_or-set_other, get_or-replicate, cases_lt, is_later, group_in, group_index, AreFirstGroupWords, length-replicate}
 

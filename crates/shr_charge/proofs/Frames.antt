@@ -1,3 +1,4 @@
+-- SPDX-License-Identifier: GPL-2.0-only
 -- The rule after a step of one seat, part by part.
 use Rattle.shr_charge.proofs.Common.{◌≡◌, ◌≢◌, ℕ, true, false, List, map, set, length, sym, ap, subst, ◌∙◌, arith, length-set, get_or-set_other, sum_by, map-set, some, get_elem?, State, at_map, set_again, Kept, TreeEntry, AreSeats, Each, Each-set, sum_by-changed, not_gone, View, Shape, Uses, TreeView, UseHistories, AreUsed, IsPaced, hierarchy_of, IsOfflined, IsChargeSound, usage_index, group_index, usage_in, group_in, lock_in, uses_in, tree_in, charge_standing_in, spent_charge_view}
 use mathlib.Core.Option.{Option}

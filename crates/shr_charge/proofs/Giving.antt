@@ -1,3 +1,4 @@
+-- SPDX-License-Identifier: GPL-2.0-only
 -- What is left of a seat that gave the room back.
 use Rattle.shr_charge.proofs.Common.{◌≡◌, ℕ, ◌+◌, ◌<◌, true, false, List, [], ◌∷◌, ◌++◌, length, sym, refl, ap, subst, ◌∙◌, Some, append-nil, All-push, Kept, TreeEntry, begin_of, done_of, MayBeDone, MayFollow, ChargeToken, Hierarchy, TreeView, IsTreeEntryMade, with_tree_hand, with_tree_given, with_done, with_tree, with_room_back, HoldsTreeRoom, Shown, Decides, Settles, hand_by, hand_made}
 use Rattle.shr_base.specs.declared.journals.TreeEntry.TheVariants.{Begin, Done, Made as MadeEntry}

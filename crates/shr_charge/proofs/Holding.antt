@@ -1,3 +1,4 @@
+-- SPDX-License-Identifier: GPL-2.0-only
 -- A token that took the room.
 use Rattle.shr_charge.proofs.Common.{◌≡◌, ℕ, ◌*◌, ◌≤◌, List, [], ◌∷◌, length, sym, ap, subst, ◌∙◌, rest, Kept, TreeEntry, Hierarchy, IsTreeJournal, ChargeToken, opens, IsTreeSeen, with_tree_hand, ChargeSat, TakesTreeRoom, HoldsTreeRoom, Shown}
 use Rattle.shr_charge.proofs.SeatLaws.{token_is}

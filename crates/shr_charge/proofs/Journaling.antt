@@ -1,3 +1,4 @@
+-- SPDX-License-Identifier: GPL-2.0-only
 -- The group words, the room and the journal under each step of one seat, on plain data.
 use Rattle.shr_charge.proofs.Common.{◌≡◌, ℕ, ◌+◌, ◌*◌, ◌<◌, ◌≤◌, ◌≢◌, Bool, true, false, not, ◌||◌, eqb, ltb, cond, List, [], ◌∷◌, ◌++◌, length, set, sym, refl, ap, subst, ◌∙◌, ⊎_elim, arith, length-append, append_assoc, eq-eqb, Option, Some, None, sum_by, All, cases_Bool, eqb-true, append-nil, sum_by_push, sum_by-append, All-push, All-append, All-weaker, All-nil, some, get_elem?, Kept, TreeEntry, is_some, Hierarchy, is_later, begin_of, made_of, is_made, MayBegin, MayBeMade, MayBeDone, MayFollow, IsTreeJournal, GroupState, Online, Offline, NotMade, Each, sum_by-changed, sum_by-joined, sum_by-more, Each-set, Each-push, TreeView, no_tree, IsPrefix, begun_state, state_at, state_word, WasState, count_of_entries, times_noted, IsTreeEntryMade, IsNamed, IsTreeSeen, IsHome, IsOfflined, with_load, with_tree_hand, with_tree_given, with_begin, with_made, with_done, joined_tree, All-cons, at_set, term_le, terms_le, IsHeard}
 use Rattle.shr_base.specs.declared.journals.TreeEntry.TheVariants.{Begin, Done, Made as MadeEntry}

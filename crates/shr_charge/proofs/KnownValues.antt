@@ -1,3 +1,4 @@
+-- SPDX-License-Identifier: GPL-2.0-only
 -- The words, records and joins of the table at known values.
 use Rattle.shr_charge.proofs.Common.{◌≡◌, ℕ, true, false, List, [], ◌∷◌, length, map, replicate, set, refl, ap, arith, Option, Some, None, pos, get_or-replicate, All-head, none-some, UseStep, TreeEntry, Hierarchy, Online, Offline, NotMade, Shows, state_in, AreFirstGroupWords, AreRising, IsPrefix, IsTreeSeen, IsNamed, state_at, state_word, opens, AreMarkedGroups, is_like, entry_number, joined_tree, usage_word, op_of, ups_at, downs_at, times_at, TreeView, no_tree, own_uses, spent_by}
 use Rattle.shr_base.specs.declared.journals.TreeEntry.TheVariants.{Begin, Done, Made as MadeEntry}

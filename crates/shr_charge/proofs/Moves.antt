@@ -1,3 +1,4 @@
+-- SPDX-License-Identifier: GPL-2.0-only
 -- Each step on a word keeps the rule, and what it tells.
 use Rattle.shr_charge.proofs.Common.{◌≡◌, ◌≢◌, ℕ, ◌+◌, ◌*◌, ◌^◌, ◌%◌, ◌/◌, ◌-◌, ◌<◌, ◌≤◌, ◌⊎◌, inl, inr, ⊎_elim, Bool, true, false, not, ◌||◌, eqb, cond, List, [], ◌∷◌, ◌++◌, map, set, get_or, length, sym, refl, ap, subst, ◌∙◌, arith, get_or-set_same, get_or-set_other, sum_by, Some, None, Option, sum_by_push, All-weaker, some, get_elem?, State, Allows, at_map, set_again, Kept, Serial, UseStep, TreeEntry, ups, downs, Hierarchy, is_later, begin_of, made_of, is_made, MayBegin, MayBeMade, MayBeDone, IsTreeJournal, is_some, cases_Bool, hierarchy_of, GroupState, Online, Offline, NotMade, View, Shape, Uses, TreeView, both_uses, one_use, usage_word, op_of, grown, IsPaced, StandsInHistory, IsLaterThan, begun_state, state_at, state_word, opens, WasState, IsNamed, IsTreeSeen, IsHome, IsOfflined, with_load, with_tree_hand, with_tree_given, with_begin, with_made, with_done, IsChargeSound, usage_index, group_index, usage_in, group_in, lock_in, uses_in, tree_in, ChargeSat, with_tree, state_in, IsWord, Shows, TakesTreeRoom, TellsUse, set-get_or, All-contains, none, Act, Valid, keeps, gives, takes, stepped, carried_after, exchanged, set_here, is_there}
 use prog.Atomic.{either}

@@ -1,3 +1,4 @@
+-- SPDX-License-Identifier: GPL-2.0-only
 -- One operation more: the histories, the sums over views, and the words, on plain data.
 use Rattle.shr_charge.proofs.Common.{◌≡◌, ℕ, ◌+◌, ◌%◌, ◌^◌, ◌<◌, ◌≢◌, Bool, true, false, not, ◌&&◌, eqb, ltb, cond, List, [], ◌∷◌, ◌++◌, length, set, sym, refl, ap, subst, ◌∙◌, ⊎_elim, arith, length-append, eq-eqb, pos, slice_get, sum_by, All, cases_Bool, eqb-true, nat_tests, sum_by_push, sum_by-append, All-push, All-append, All-weaker, All-nil, some, get_elem?, UseStep, Serial, ups, downs, sum_by-changed, sum_by-joined, sum_by-more, Each-set, Each-push, Uses, no_uses, own_uses, both_uses, one_use, usage_word, op_of, ups_at, downs_at, times_at, UseHistories, grown, StandsInHistory, AreUsed, ◌/◌, ◌-ℤ◌, IsNextUse, IsChargeHistory, Each-weaker}
 use Rattle.shr_charge.proofs.Listing.{get_longer, get_last, get_below, stands_push}

@@ -1,3 +1,4 @@
+-- SPDX-License-Identifier: GPL-2.0-only
 -- The halves of the usage words don't wrap, since each seat makes a bounded number of calls.
 use Rattle.shr_charge.proofs.Common.{◌≡◌, ℕ, suc, ◌+◌, ◌*◌, ◌^◌, ◌≤◌, Bool, true, false, not, ◌&&◌, eqb, cond, List, [], ◌∷◌, sym, refl, ap, ◌∙◌, ⊎_elim, arith, sum_by, cases_Bool, eqb-true, sum_by_push, sum_by-append, sum_by-cons, UseStep, Each, Uses, no_uses, own_uses, both_uses, one_use, ups_at, downs_at, IsPaced}
 

@@ -1,3 +1,4 @@
+-- SPDX-License-Identifier: GPL-2.0-only
 -- A charge that was refused, and taking it back.
 use Rattle.shr_charge.proofs.Common.{◌≡◌, ℕ, ◌+◌, ◌*◌, ◌<◌, ◌≤◌, true, false, not, ◌&&◌, eqb, cond, List, [], ◌∷◌, ◌++◌, map, length, sym, refl, ap, subst, ◌∙◌, arith, append_assoc, length-append, pos, Some, All, length-map, sum_by-cons, sum_by-append, All-head, All-weaker, All-push, Kept, UseStep, Serial, depth_of, ChargeSeated, Shape, Uses, both_uses, downs_at, path_to, uses_of, use_group, IsUp, calls_with, Climbs, Lowers, All-tail, Charges}
 use Rattle.shr_charge.specs.declared.answers.ChargeAnswer.TheVariants.{Over}

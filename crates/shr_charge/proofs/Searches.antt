@@ -1,3 +1,4 @@
+-- SPDX-License-Identifier: GPL-2.0-only
 -- The first entry of a kind, and the first child that isn't done, by a loop.
 use Rattle.shr_charge.proofs.Common.{◌≡◌, ℕ, suc, ◌+◌, ◌<◌, ◌≤◌, ◌-◌, ◌||◌, Bool, true, false, cond, List, [], ◌∷◌, ◌++◌, length, take, drop, get_or, sym, refl, ap, ◌∙◌, arith, Option, Some, None, find, position_from, range_with_len, option_or, is_some, take-append-drop, TreeEntry, take_all, length-take-le}
 use Rattle.std.proofs.lemmas.List.Folds.{find-append}

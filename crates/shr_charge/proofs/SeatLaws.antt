@@ -1,3 +1,4 @@
+-- SPDX-License-Identifier: GPL-2.0-only
 -- A seat of the table after a step.
 use Rattle.shr_charge.proofs.Common.{◌≡◌, ℕ, ◌+◌, ◌^◌, ◌-◌, ◌≤◌, Bool, true, false, [], cond, sym, refl, ap, subst, ◌∙◌, arith, bool_byte, Charge, TreeView, Uses, both_uses, IsPaced, split_charge_view, joined_charge_view, ChargeSat, ChargeSeated, ChargeToken, IsChargeSeat, seated_at, with_room_back, counted, min}
 use Rattle.shr_charge.proofs.Pacing.{paced_join}

@@ -1,3 +1,4 @@
+-- SPDX-License-Identifier: GPL-2.0-only
 -- Splitting the first seat and joining another into it keep the rule.
 use Rattle.shr_charge.proofs.Common.{◌≡◌, ℕ, ◌<◌, true, false, [], ◌∷◌, ◌++◌, map, length, set, sym, refl, ap, subst, ◌∙◌, arith, length-append, length-set, sum_by, map-set, length-map, some, get_elem?, at_map, set_again, AreSeats, Each, Each-set, Each-push, sum_by-more, sum_by-joined, not_gone, View, Shape, Uses, no_uses, own_uses, no_tree, both_uses, AreUsed, IsPaced, hierarchy_of, IsOfflined, IsChargeSound, usage_in, group_in, lock_in, uses_in, tree_in, charge_standing_in, spent_charge_view, split_charge_view, joined_charge_view, map-append, Splits, Joins, set_else, at_split, at_end, AreSeats-split, AreSeats-join, new_charge_view}
 use Rattle.shr_charge.proofs.Numbering.{used_split, used_join}

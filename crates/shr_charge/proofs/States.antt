@@ -1,3 +1,4 @@
+-- SPDX-License-Identifier: GPL-2.0-only
 -- What a group's state by a legal journal says of its entries.
 use Rattle.shr_charge.proofs.Common.{◌≡◌, ℕ, ◌+◌, Bool, true, false, not, ◌||◌, List, take, sym, refl, subst, ◌∙◌, ⊎_elim, arith, Option, Some, None, is_some, cases_Bool, none-some, TreeEntry, Hierarchy, IsHierarchy, is_later, begin_of, done_of, made_of, is_made, IsTreeJournal, Done, Online, Offline, NotMade, begun_state, state_at, WasState}
 use Rattle.shr_charge.proofs.Entries.{begun_made}

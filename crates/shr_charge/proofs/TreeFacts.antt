@@ -1,3 +1,4 @@
+-- SPDX-License-Identifier: GPL-2.0-only
 -- What a legal journal of the tree says of groups above and below one another.
 use Rattle.shr_charge.proofs.Common.{◌≡◌, ℕ, zero, suc, ◌+◌, ◌-◌, ◌<◌, ◌≤◌, ◌≢◌, ◌⊎◌, inl, inr, ⊎_elim, Bool, true, false, not, ◌||◌, cond, List, [], ◌∷◌, length, take, drop, sym, refl, ap, subst, ◌∙◌, arith, eq-eqb, slice_get, find, Option, Some, None, position_from, range_with_len, is_none, is_some, IsSome, cases_Bool, cases_lt, eqb-true, none-some, TreeEntry, Begin, Done, Made, Hierarchy, IsHierarchy, parent_of, path_of, is_later, is_begin, is_done, is_making, begin_of, done_of, made_of, is_made, is_undone_child, MayBegin, MayBeDone, MayBeMade, IsTreeJournal, take-append-drop, Contains, same_Some, IsAtOrAbove, is_child}
 use mathlib.Core.Logic.{dite}

@@ -1,3 +1,4 @@
+-- SPDX-License-Identifier: GPL-2.0-only
 -- The path of a group up to another, step by step.
 use Rattle.shr_charge.proofs.Common.{◌≡◌, ◌≢◌, ℕ, zero, suc, ◌<◌, ◌≤◌, true, false, ◌||◌, eqb, cond, List, [], ◌∷◌, length, sym, refl, ap, ◌∙◌, ⊎_elim, arith, eq-eqb, ne_eqb, cases_Bool, eqb-true, IsTree, parent_of, path_of, depth_of, path_to}
 use Rattle.shr_model.specs.Groups.{path_within}

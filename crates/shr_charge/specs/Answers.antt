@@ -1,3 +1,4 @@
+-- SPDX-License-Identifier: GPL-2.0-only
 -- What the calls of making groups and of going offline answer, and what they leave of a seat.
 use Rattle.std.specs.Prelude.{◌≡◌, ℕ, ◌+◌, ◌<◌, true, false, List, [], ◌∷◌, ◌++◌, length, Some, None}
 use Rattle.shr_base.specs.declared.journals.TreeEntry.{TreeEntry}

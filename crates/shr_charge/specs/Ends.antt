@@ -1,3 +1,4 @@
+-- SPDX-License-Identifier: GPL-2.0-only
 -- What is left of the table once all other seats were joined into the first.
 use Rattle.std.specs.Prelude.{◌≡◌, ℕ, List, map, length, nat_lt, cond, All}
 use Rattle.std.specs.List.{range_with_len}

@@ -1,3 +1,4 @@
+-- SPDX-License-Identifier: GPL-2.0-only
 -- What the loops that go up a path know. No public clause cites this.
 use Rattle.std.specs.Prelude.{◌≡◌, ℕ, ◌+◌, ◌≤◌, Bool, ◌&&◌, nat_lt, List, [], ◌∷◌, ◌++◌, map, Option, Some, None, All, pos, ◌<ℤ◌, ◌^◌}
 use Rattle.shr_base.specs.Kept.{Kept}

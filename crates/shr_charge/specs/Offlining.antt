@@ -1,3 +1,4 @@
+-- SPDX-License-Identifier: GPL-2.0-only
 -- The group words, the tree room with the journal of the tree, and what the views know of it.
 use Rattle.std.specs.Prelude.{◌≡◌, ℕ, zero, suc, ◌+◌, ◌<◌, ◌≤◌, true, ◌&&◌, ◌==◌, ◌^◌, nat_lt, cond, List, length, slice_get, sum_by, count_by, Option, Some, None, All}
 use Rattle.std.specs.Option.{is_some, is_none}

@@ -1,3 +1,4 @@
+-- SPDX-License-Identifier: GPL-2.0-only
 -- Seats of the charge table.
 use Rattle.std.specs.Prelude.{◌≡◌, ℕ, ◌-◌, ◌^◌, ◌≤◌, min, true, false, ◌||◌, nat_le, cond, [], Option, Some, None}
 use Rattle.atomic_table.specs.declared.shared.Seat.{Seat}

@@ -1,3 +1,4 @@
+-- SPDX-License-Identifier: GPL-2.0-only
 -- What the steps do to a view.
 use Rattle.std.specs.Prelude.{ℕ, true, false, ◌+◌, List, [], ◌∷◌, ◌++◌, length}
 use Rattle.shr_base.specs.declared.journals.TreeEntry.{TreeEntry}

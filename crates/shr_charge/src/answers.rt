@@ -1,3 +1,4 @@
+// SPDX-License-Identifier: GPL-2.0-only
 //! What the calls answer.
 
 /// What came of a charge.
@@ -67,7 +68,7 @@ pub enum MakeAnswer {
     Made { entry: u32 },
 }
 
-/// What came of finishing to take a group offline. Our own.
+/// What came of finishing to take a group offline.
 #[derive(Clone, Copy, Debug, PartialEq, Eq)]
 pub enum DoneAnswer {
     /// It is done, by this entry.

@@ -1,3 +1,4 @@
+// SPDX-License-Identifier: GPL-2.0-only
 //! The table at the end.
 
 ghost use Rattle.std.specs.Prelude.{◌≡◌, ◌+◌, ◌*◌, true, map, IfOk};
@@ -36,7 +37,7 @@ fn usage_of(
 }
 
 impl<'a> ChargeSeat<'a> {
-    /// Takes the first seat from its table, with what it did and saw. Our own.
+    /// Takes the first seat from its table, with what it did and saw.
     pub fn leave(self) -> FirstChargeSeat
         requires first { self.standing.first ≡ true }
         ensures first { IsFirstChargeOf self.entry.charge result }
@@ -59,7 +60,7 @@ impl<'a> ChargeSeat<'a> {
 impl Charge {
     /// Ends the table, and gives the journal of the tree and each group's usage word. By then all
     /// other seats were joined into the first one, whose view has each operation and each entry. On
-    /// `Memory` the table is gone too. Our own.
+    /// `Memory` the table is gone too.
     pub fn finish(self, first: FirstChargeSeat) -> Result<ChargeEnd, Memory>
         requires first { IsFirstChargeOf self first }
         requires whole { IsWhole (first_standing first) }

@@ -1,3 +1,4 @@
+// SPDX-License-Identifier: GPL-2.0-only
 //! How many objects each group is charged for, and which groups were made and went offline.
 //!
 //! Threads share the usage words, the group words and the journal of the tree in one table, each

@@ -1,3 +1,4 @@
+// SPDX-License-Identifier: GPL-2.0-only
 //! Whether a group is online, making it, and taking it offline.
 
 ghost use Rattle.std.specs.Prelude.{◌≡◌, ◌*◌, ◌<◌, ◌≤◌, true, IsSome, None, List, length};
@@ -23,7 +24,7 @@ use shr_base::log::Log;
 use std::marker::Brand;
 use std::sync::Wait;
 
-/// The word of a group that is later and isn't made. Our own.
+/// The word of a group that is later and isn't made.
 pub(crate) const NOT_MADE: u64 = 1 << 63;
 
 // What a group word tells.

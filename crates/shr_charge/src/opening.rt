@@ -1,3 +1,4 @@
+// SPDX-License-Identifier: GPL-2.0-only
 //! The table at the start.
 
 ghost use Rattle.std.specs.Prelude.{◌≡◌, ◌≤◌, ◌+◌, ◌*◌, length, replicate, IfOk};
@@ -67,7 +68,7 @@ impl Charge {
 }
 
 impl FirstChargeSeat {
-    /// The first seat at its table. Our own.
+    /// The first seat at its table.
     pub fn at<'a>(self, charge: &'a Charge) -> ChargeSeat<'a>
         requires { IsFirstChargeOf charge.now self }
         ensures { result ≡ first_seated charge.now self }

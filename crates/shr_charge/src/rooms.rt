@@ -1,3 +1,4 @@
+// SPDX-License-Identifier: GPL-2.0-only
 //! The tree room: taking it, and giving it back.
 
 ghost use Rattle.std.specs.Prelude.{◌≡◌, ◌+◌, ◌<◌, true, false, [], ◌∷◌, ◌++◌, length, MatchBool};
@@ -31,7 +32,7 @@ impl Charge {
         self.lock_as::<Brand>(token) == 0
     }
 
-    /// Waits for the room, and takes its journal out of it. Our own.
+    /// Waits for the room, and takes its journal out of it.
     pub(crate) fn take_tree<R: Wait>(&self, rt: &R, token: &mut Token) -> Log<TreeEntry>
         requires seat { IsTokenOf self.now token.old }
         requires bare { token.old.me.1 ≡ [] }
@@ -49,7 +50,7 @@ impl Charge {
         unreachable!()
     }
 
-    /// Gives the room back with its journal. Our own.
+    /// Gives the room back with its journal.
     pub(crate) fn give_tree(&self, token: &mut Token, room: Log<TreeEntry>)
         requires seat { IsTokenOf self.now token.old }
         requires hand { token.old.me.0.tree.in_hand ≡ true }
@@ -64,7 +65,7 @@ impl Charge {
         self.store_as::<Brand>(token, 0, 0, 0);
     }
 
-    /// Gives the room back with its journal, which has the Done of a group more. Our own.
+    /// Gives the room back with its journal, which has the Done of a group more.
     pub(crate) fn give_done(&self, token: &mut Token, room: Log<TreeEntry>, group: u16)
         requires seat { IsTokenOf self.now token.old }
         requires hand { token.old.me.0.tree.in_hand ≡ true }
@@ -83,7 +84,6 @@ impl Charge {
     }
 
     /// Stores the group word of a group that begins to go offline by the entry with this number.
-    /// Our own.
     pub(crate) fn store_begin(&self, token: &mut Token, group: u16, entry: u32)
         requires seat { IsTokenOf self.now token.old }
         requires hand { token.old.me.0.tree.in_hand ≡ true }
@@ -102,7 +102,7 @@ impl Charge {
         );
     }
 
-    /// Stores 0 in the group word of a later group, which makes it. Our own.
+    /// Stores 0 in the group word of a later group, which makes it.
     pub(crate) fn store_made(&self, token: &mut Token, group: u16)
         requires seat { IsTokenOf self.now token.old }
         requires hand { token.old.me.0.tree.in_hand ≡ true }

@@ -1,3 +1,4 @@
+// SPDX-License-Identifier: GPL-2.0-only
 //! Searching the journal of the tree.
 
 ghost use Rattle.std.specs.Prelude.{◌≡◌, ◌==◌, ◌^◌, ◌<◌, ◌||◌, ℕ, length, take, None};
@@ -16,8 +17,7 @@ fn is_like(entry: TreeEntry, wanted: TreeEntry) -> bool
     entry == wanted
 }
 
-/// The number of the first entry of this kind and group, of which none stands before `from`. Our
-/// own.
+/// The number of the first entry of this kind and group, of which none stands before `from`.
 pub(crate) fn first_like(entries: &[TreeEntry], wanted: TreeEntry, from: usize) -> Option<u32>
     requires short { length entries.now < 2 ^ 32 }
     requires before { entry_number wanted (take from entries.now) ≡ None }
@@ -42,7 +42,6 @@ fn mark(marks: &mut [bool; MOST_GROUPS], group: u16)
 }
 
 /// What a journal says of each group, at its number: whether it was made, and whether it is done.
-/// Our own.
 #[derive(Drop)]
 pub(crate) struct Marks {
     pub(crate) made: [bool; MOST_GROUPS],
@@ -50,7 +49,7 @@ pub(crate) struct Marks {
 }
 
 impl Marks {
-    /// What a journal says, read once from its begin to its end. Our own.
+    /// What a journal says, read once from its begin to its end.
     pub(crate) fn of(entries: &[TreeEntry]) -> Marks
         ensures { AreMarkedGroups entries.now result }
     {

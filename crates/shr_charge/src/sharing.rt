@@ -1,3 +1,4 @@
+// SPDX-License-Identifier: GPL-2.0-only
 //! Seats for further threads, and whether a seat is worn out.
 
 ghost use Rattle.std.specs.Prelude.{◌≡◌, ◌<◌, true, IfOk, IsOk};
@@ -9,15 +10,15 @@ use crate::table::ChargeSeat;
 use shr_base::memory::Memory;
 use shr_base::replies::Spent;
 
-/// A seat that was called this often to charge is worn out. Our own.
+/// A seat that was called this often to charge is worn out.
 pub const MOST_CHARGES: u32 = 1 << 20;
 
-/// A seat that was called this often to uncharge is worn out. Our own.
+/// A seat that was called this often to uncharge is worn out.
 pub const MOST_UNCHARGES: u32 = 1 << 22;
 
 impl<'a> ChargeSeat<'a> {
     /// A further seat, which has done and seen nothing. Only the first seat is split, fewer than 64
-    /// times. It takes no memory today. Our own.
+    /// times. It takes no memory today.
     pub fn split(&mut self) -> Result<ChargeSeat<'a>, Memory>
         requires first { self.old.standing.first ≡ true }
         requires few { self.old.standing.splits < 64 }
@@ -38,7 +39,7 @@ impl<'a> ChargeSeat<'a> {
         })
     }
 
-    /// Joins another seat into the first one, which takes over what it did and saw. Our own.
+    /// Joins another seat into the first one, which takes over what it did and saw.
     pub fn join(&mut self, other: ChargeSeat<'a>)
         requires first { self.old.standing.first ≡ true }
         requires table { other.charge ≡ self.old.charge }
@@ -59,7 +60,7 @@ impl<'a> ChargeSeat<'a> {
     }
 
     /// Whether the seat is worn out, with its numbers of charges and uncharges. A refused charge
-    /// counts as one, and taking it back doesn't count. Our own.
+    /// counts as one, and taking it back doesn't count.
     pub fn spent(&self) -> Option<Spent>
         ensures { result ≡ spent_by (uses_of self.now) }
     {

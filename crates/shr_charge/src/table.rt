@@ -1,3 +1,4 @@
+// SPDX-License-Identifier: GPL-2.0-only
 //! The table and its seats.
 
 ghost use Rattle.std.specs.Prelude.{◌≡◌, ◌+◌, ◌*◌, ◌≤◌, length};
@@ -13,10 +14,10 @@ use shr_seats::shape::Shape;
 use std::alloc::Global;
 use std::marker::Model;
 
-/// What the table knows of a seat. Our own.
+/// What the table knows of a seat.
 pub(crate) type Token = Seat<Log<TreeEntry>, View>;
 
-/// A thread's seat at its table, which counts its calls. Our own.
+/// A thread's seat at its table, which counts its calls.
 #[derive(Drop)]
 pub struct ChargeSeat<'a> {
     pub(crate) charge: &'a Charge,
@@ -38,7 +39,7 @@ impl<'a> Model for ChargeSeat<'a> {
 }
 
 impl<'a> ChargeSeat<'a> {
-    /// The table that the seat is of. Our own.
+    /// The table that the seat is of.
     pub fn table(&self) -> &'a Charge
         ensures { result.now ≡ self.now.charge }
     {
@@ -46,7 +47,7 @@ impl<'a> ChargeSeat<'a> {
     }
 }
 
-/// The first seat while it is not at its table: before the threads begin, and at the end. Our own.
+/// The first seat while it is not at its table: before the threads begin, and at the end.
 #[derive(Drop)]
 pub struct FirstChargeSeat {
     pub(crate) token: Token,

@@ -1,3 +1,4 @@
+// SPDX-License-Identifier: GPL-2.0-only
 //! What a seat of the table knows.
 
 ghost use Rattle.std.specs.Borrow.{ftrue};
@@ -6,7 +7,7 @@ ghost use Rattle.shr_seats.specs.Standing.{Standing};
 
 use std::marker::Model;
 
-/// What a seat did and saw, and its place among the seats. No value of it is made. Our own.
+/// What a seat did and saw, and its place among the seats. No value of it is made.
 pub struct View {
     pub ghost uses: { Uses },
     pub ghost tree: { TreeView },

@@ -1,3 +1,4 @@
+// SPDX-License-Identifier: GPL-2.0-only
 //! The steps on words.
 
 ghost use Rattle.std.specs.Prelude.{◌≡◌, ◌+◌, ◌<◌, ◌%◌, ◌^◌, ◌==◌};
@@ -14,11 +15,11 @@ use shr_seats::telling::{Tells, Told};
 
 /// Each group has eight words: the second is its usage, the third its state, and the first of the
 /// root is the lock word of the tree room. The others stay 0: where the table begins in the first
-/// half of a line of a processor's cache, no two groups share a line. Our own.
+/// half of a line of a processor's cache, no two groups share a line.
 pub(crate) const WORDS_A_GROUP: usize = 8;
 
 impl Charge {
-    /// Adds to a word modulo 2^64, and gives what it was. `T` says what that tells. Our own.
+    /// Adds to a word modulo 2^64, and gives what it was. `T` says what that tells.
     pub(crate) fn add_as<T: Tells<Log<TreeEntry>, View>>(
         &self,
         token: &mut Token,
@@ -39,7 +40,7 @@ impl Charge {
         self.table.shared.fetch_add::<Told<T>>(token, word, n)
     }
 
-    /// One load of a word. `T` says what that tells. Our own.
+    /// One load of a word. `T` says what that tells.
     pub(crate) fn load_as<T: Tells<Log<TreeEntry>, View>>(
         &self,
         token: &mut Token,
@@ -56,7 +57,7 @@ impl Charge {
         self.table.shared.load::<Told<T>>(token, word)
     }
 
-    /// Stores a number in a word. `T` says what that tells. Our own.
+    /// Stores a number in a word. `T` says what that tells.
     pub(crate) fn store_as<T: Tells<Log<TreeEntry>, View>>(
         &self,
         token: &mut Token,
@@ -76,7 +77,7 @@ impl Charge {
     }
 
     /// One compare and exchange of the lock word from 0 to 1, which gives what it was. `T` says
-    /// what that tells. Our own.
+    /// what that tells.
     pub(crate) fn lock_as<T: Tells<Log<TreeEntry>, View>>(&self, token: &mut Token) -> u64
         requires table { token.old.table_id ≡ self.now.table.shared.table_id }
         requires word { 0 < self.now.table.shared.table_id.words }

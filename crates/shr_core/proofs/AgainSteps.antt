@@ -1,3 +1,4 @@
+-- SPDX-License-Identifier: GPL-2.0-only
 -- A lookup of an id that the seat met keeps the rule.
 use Rattle.shr_core.proofs.Common.{◌≡◌, ℕ, zero, suc, ◌+◌, ◌*◌, ◌%◌, ◌^◌, ◌<◌, true, false, cond, eqb, List, [], ◌∷◌, map, length, set, get_or, sym, refl, ap, subst, ◌∙◌, arith, eq-eqb, same_Some, some, get_elem?, State, Act, Valid, keeps, Allows, stepped, carried_after, exchanged, LookupWord, PoolEntry, phase_of, decl_of, is_live, decl_at, Begins, Each-set, View, Slot, Setting, Claims, Dated, bits_in, looks_in, sizes_of, refs_of, lookups_of, phase_in, decl_in, word_in, Sound, HasOwnEnd, AreDated, AreLookupsOf, claims_of, turns_of, only_some, Sat, MetLive, with_again, looked_again, set_there}
 use Rattle.shr_core.proofs.Options.{only_some_no}

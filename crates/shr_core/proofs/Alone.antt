@@ -1,3 +1,4 @@
+-- SPDX-License-Identifier: GPL-2.0-only
 -- What the words say while one seat alone is there.
 use Rattle.shr_core.proofs.Common.{◌≡◌, ◌≢◌, ℕ, zero, suc, ◌+◌, ◌<◌, ◌≤◌, true, false, Bool, cond, nat_lt, List, [], ◌∷◌, length, map, sym, refl, ap, subst, ◌∙◌, arith, nat_le, ◌&&◌, nat_tests, some, some-injective, some-ne-none, get_elem?, State, at_map, IsWhole, total, only, from_map, sole, total_zero, View, Slot, Setting, Claims, Tried, Turn, Turns, looks_in, locks_in, sizes_of, refs_of, lookups_of, Sound, IsRoom, spent, hit_attempt, hit_turn, only_some, has_room, holding_of, claims_of, turns_of, view_standing}
 

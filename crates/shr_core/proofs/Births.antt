@@ -1,3 +1,4 @@
+-- SPDX-License-Identifier: GPL-2.0-only
 -- The objects that an entry leaves and frees are born in groups where those before it are.
 use Rattle.shr_core.proofs.Common.{ℕ, zero, suc, ◌<◌, Bool, true, false, if◌then◌else◌, List, [], ◌∷◌, ◌++◌, refl, Option, Some, None, Object, Policy, Entry, Add, Look, Drop, Pin, Scan, MovedIn, Closed, Drained, fresh, step, Each-append, Each-cons, Each-none, Each-push, AreBorn, find, is_named, holds, named_in, marked_object, unmarked_object, pinned_object, change_first, without_first, after_drop, dropped_of, freed_by}
 use Rattle.shr_base.specs.declared.objects.LruStatus.TheVariants.{Removed, Rotate, Skip, Stop}

@@ -1,3 +1,4 @@
+-- SPDX-License-Identifier: GPL-2.0-only
 -- Steps on bit words keep the rule.
 use Rattle.shr_core.proofs.Common.{◌≡◌, ℕ, ◌+◌, ◌*◌, ◌%◌, ◌^◌, ◌<◌, ◌≢◌, true, false, List, map, length, set, get_or, sym, refl, ap, subst, ◌∙◌, arith, bit_or, bit_and, bit_at, bit_not, w64, dite, ℕ_discrete, some, get_elem?, State, keeps, Allows, View, Slot, Setting, Shape, Sizes, Claims, Turns, is_row, row_in, counts_in, locks_in, bits_in, looks_in, places_in, words_in, map_of, place_bit, sizes_of, Sound, IsInside, HasLastEnd, AreRoomsOf, AreLists, AreTraces, AreMarks, AreLookupsOf, AreOwned, AreTurns, AreDated, phases, holding_of, traces_of, marks_of, claims_of, turns_of, view_standing, AreSeats, Sat, with_set, with_clear, AreOrdered}
 use Rattle.std.proofs.lemmas.Nat.Bits.{bit_at_set_same, bit_at_set_other, bit_at_clear_same, bit_at_clear_other}

@@ -1,3 +1,4 @@
+-- SPDX-License-Identifier: GPL-2.0-only
 -- A seat after a step is of its core still.
 use Rattle.shr_core.proofs.Common.{◌≡◌, ℕ, ◌/◌, ◌<◌, ◌≤◌, Bool, cond, eq-eqb, ne_eqb, List, [], ◌∷◌, map, length, sym, refl, ap, subst, ◌∙◌, ⊎_elim, arith, Option, Some, None, dite, ℕ_discrete, Allows, Place, place_number, PoolEntry, Met, View, Shape, Setting, Slot, Hand, RoomContent, Sound, IsInside, groups_in, sizes_of, Sat, with_taken, with_content, row_in, words_in, map_of, slot_numbers, numbers_of, IsOf, IsPlaceOfShape, IsHolding, IsMeeting, MayTake, room_numbers, room_rows}
 use Rattle.shr_core.specs.declared.table.Core.{Core}

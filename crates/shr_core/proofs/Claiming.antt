@@ -1,3 +1,4 @@
+-- SPDX-License-Identifier: GPL-2.0-only
 -- Lookup words and claims keep their part of the rule.
 use Rattle.shr_core.proofs.Common.{◌≡◌, ◌⊎◌, ℕ, ◌+◌, ◌*◌, ◌%◌, ◌<◌, ◌≤◌, ◌≢◌, Bool, true, false, cond, eqb, ltb, List, [], ◌∷◌, ◌++◌, length, set, sym, refl, ap, subst, ◌∙◌, inl, inr, ⊎_elim, arith, eq-eqb, ne_eqb, length-set, none-some, same_Some, ◌&&◌, Option, Some, None, nat_tests, dite, ℕ_discrete, dec_lt, some, get_elem?, LookupWord, PoolEntry, Registered, Unregistered, Idle, phase_of, decl_of, decl_after, last_number, from_of, from_after, is_live, registrations, decl_at, one_of, phase_of_push, decl_from_push, Each, total, total_same, total-set, total-append, term_le, Each-set, Each-push, Each-weaker, Claims, Tried, Loaded, refs_of, lookups_of, phase_in, decl_in, AreLookups, IsHeld, IsTried, IsLoaded, only_some, hit_attempt, met_now, turn_at, leb, number_after, HaveEndedBy, number_from_push, from_from_push, registrations_else, ended_push, ended_later, Numbered, met_after, decl_at_push_low, decl_at_push_high, or_else, total_le, total_both, claimed}
 use Rattle.shr_core.proofs.Options.{not_some, only_some_yes, only_some_no, only_some_le, only_none}

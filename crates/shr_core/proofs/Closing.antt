@@ -1,3 +1,4 @@
+-- SPDX-License-Identifier: GPL-2.0-only
 -- What is left of a finished core is that of its last state.
 use Rattle.shr_core.proofs.Common.{◌≡◌, ℕ, zero, suc, ◌<◌, Bool, true, false, cond, List, [], ◌∷◌, ◌++◌, map, length, sym, refl, ap, ◌∙◌, arith, dite, ℕ_discrete, some, some-injective, get_elem?, State, Final, Seen, Object, Entry, IsWhole, total, Sizes, from_map, sole, total_zero, View, Slot, Setting, Hand, Holding, is_row, row_in, bits_in, looks_in, places_in, sizes_of, groups_in, Sound, IsRoom, IsRoomAtHome, spent, has_room, is_room, holding_of, view_standing, items_now, end_value, place_ends, lookups_below, nodes_below, units_in, entries_of, items_of_slot, entries_in, items_in, IsClosedOf}
 use Rattle.shr_base.specs.declared.ends.Closed.{Closed}

@@ -1,3 +1,4 @@
+-- SPDX-License-Identifier: GPL-2.0-only
 -- That the registration of a dated id ends only after its lookup is kept.
 use Rattle.shr_core.proofs.Common.{◌≡◌, ◌≢◌, ℕ, ◌<◌, ◌≤◌, Bool, true, false, cond, eqb, List, [], ◌∷◌, ◌++◌, length, set, drop, sym, refl, ap, subst, ◌∙◌, arith, eq-eqb, ne_eqb, lt-ltb, length-append, dite, ℕ_discrete, some, get_elem?, LookupWord, PoolEntry, Registered, Unregistered, Idle, is_before, Each, Each-set, Each-push, Each-append, Each-none, Each-one, Each-join, Claims, Dated, Turns, no_turns, lookups_of, IsDated, AreDated, IsHeld, turn_at, dated_now, drop-append-le, dating_of}
 use Rattle.std.specs.Prelude.{Some, Option as Maybe, None}

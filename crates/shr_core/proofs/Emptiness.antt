@@ -1,3 +1,4 @@
+-- SPDX-License-Identifier: GPL-2.0-only
 -- What an entry leaves of an empty list.
 use Rattle.shr_core.proofs.Common.{◌≡◌, ◌⊎◌, ℕ, zero, suc, ◌≢◌, Bool, List, [], ◌∷◌, length, refl, ap, ◌∙◌, inl, inr, arith, append-nil, Object, Serial, Policy, Entry, Add, Look, Drop, Pin, Scan, MovedIn, Closed, Drained, step}
 use Rattle.shr_model.specs.Scan.{scan_of, scan_from}

@@ -1,3 +1,4 @@
+-- SPDX-License-Identifier: GPL-2.0-only
 -- What is left, one word or room more.
 use Rattle.shr_core.proofs.Common.{◌≡◌, ℕ, zero, suc, ◌+◌, ◌*◌, ◌<◌, ◌≤◌, true, cond, eqb, List, [], ◌∷◌, ◌++◌, get_or, sym, refl, ap, ◌∙◌, arith, append_assoc, if◌then◌else◌, append-nil, dite, ℕ_discrete, some, get_elem?, Object, Entry, MapEnd, Sizes, row_of, row_count, map_number, is_row, row_in, bits_in, places_in, Slot, lookups_of, entries_of, items_of_slot, entries_in, items_in, place_ends}
 use Rattle.shr_seats.proofs.RowLaws.{place_first, place_last}

@@ -1,3 +1,4 @@
+-- SPDX-License-Identifier: GPL-2.0-only
 -- From the parts of the rule after a step to the rule of the table after it.
 use Rattle.shr_core.proofs.Common.{◌≡◌, ℕ, ◌+◌, ◌*◌, ◌%◌, ◌<◌, ◌≢◌, Bool, true, false, cond, List, map, length, set, get_or, sym, subst, ◌∙◌, arith, length-set, get_or-set_other, some, get_elem?, State, PoolEntry, Each, Sizes, AreSeats, Each-set, View, Slot, Setting, Holding, Traces, Marks, Claims, Turns, is_row, row_in, counts_in, locks_in, bits_in, looks_in, sizes_of, AreOrdered, Sound, HasOwnEnd, Journals, Histories, spent, AreRoomsOf, AreLists, AreTraces, AreMarks, AreLookupsOf, AreOwned, AreTurns, AreDated, phases, holding_of, traces_of, marks_of, claims_of, turns_of, view_standing, map-set, set-get_or, set_again, Standing, AreEmptied, Rules}
 use mathlib.Core.Option.{Option}

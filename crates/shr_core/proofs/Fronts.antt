@@ -1,3 +1,4 @@
+-- SPDX-License-Identifier: GPL-2.0-only
 -- The slot of a room that is given back comes to the front.
 use Rattle.shr_core.proofs.Common.{◌≡◌, ◌≢◌, ℕ, ◌<◌, cond, List, [], ◌∷◌, map, length, get_or, sym, ap, ◌∙◌, arith, eq-eqb, ne_eqb, dite, ℕ_discrete, rest, total, only_no, Slot, Hand, is_room, without_room, HasFirst, slot_numbers}
 use Rattle.atomic_table.specs.Table.{turned}

@@ -1,3 +1,4 @@
+-- SPDX-License-Identifier: GPL-2.0-only
 -- What a call gains, what a lookup met and what a map shows, at known values.
 use Rattle.shr_core.proofs.Common.{◌≡◌, ℕ, ◌*◌, ◌<◌, false, true, [], ◌∷◌, length, refl, ap, subst, arith, sym, MovedIn, Closed, beside, none-some, List, Some, None, Registered, Unregistered, Idle, from_of, total, times, Marks, no_marks, no_claims, IsShown, HasOnlyIds, IsDated, opener, only_some, with_set, dated_now, split_off, half_after, is_drained, nothing, then_gained, Adds, OwesNoMore, MetLive, IsBusy, IsIdle}
 use Rattle.shr_model.specs.Pool.{phase_of, decl_from, from_from, end_of, registrations, decl_at}

@@ -1,3 +1,4 @@
+-- SPDX-License-Identifier: GPL-2.0-only
 -- What each step adds to a view, and what calls add one after another.
 use Rattle.shr_core.proofs.Common.{◌≡◌, ℕ, ◌+◌, ◌%◌, eqb, List, [], ◌∷◌, ◌++◌, length, sym, refl, ap, ◌∙◌, arith, append_assoc, Option, Some, None, append-nil, Deed, by_seat, Object, LookupWord, Entry, Begins, begins_all, begins_push, begins_more, View, Shape, RoomContent, Event, counted, made, looked, loaded, turned, raised, cleared, mapped, places_in, in_hand, with_count, with_map, with_set, with_clear, with_taken, with_try, with_given, with_pool_given, with_stored, with_word, with_leave, with_given_up, with_lookup, with_put, put_events, with_phase, met_in, turn_at, dated_now, with_again, nothing, then_gained, Adds, map-append, Gained, AreKinds, among, seen_in, made_in, attempts_in, loaded_in, turns_in, sets_in, cleared_in, maps_in}
 use Rattle.shr_core.proofs.Uses.{using_still, using_looked, using_put}

@@ -1,3 +1,4 @@
+-- SPDX-License-Identifier: GPL-2.0-only
 -- What a seat has in hand after it took a room, stored a count or raised a phase.
 use Rattle.shr_core.proofs.Common.{◌≡◌, ℕ, zero, suc, ◌%◌, ◌<◌, Bool, false, cond, eqb, List, [], ◌∷◌, ◌++◌, sym, refl, ap, subst, ◌∙◌, arith, eq-eqb, ne_eqb, Some, dite, ℕ_discrete, LookupWord, PoolEntry, Registered, Unregistered, Idle, is_live_decl, lowest_idle, total, only_yes, only_no, View, Shape, RoomContent, Hand, places_in, is_room, has_room, content_in, in_hand, with_content, with_taken, with_phase, turn_at, MayPhase}
 use Rattle.shr_model.specs.Pool.{phase_of, is_live_below, lowest_free}

@@ -1,3 +1,4 @@
+-- SPDX-License-Identifier: GPL-2.0-only
 -- A seat uses an id since a lookup of its own that found the id live, and what ends the use comes behind it.
 use Rattle.shr_core.proofs.Common.{◌≡◌, ℕ, zero, suc, ◌+◌, ◌<◌, ◌≤◌, Bool, true, false, cond, List, [], ◌∷◌, ◌++◌, sym, refl, ap, subst, ◌∙◌, arith, eqb, eq-eqb, ne_eqb, append-nil, dite, ℕ_discrete, get_elem?, Deed, state_after, AreSo, times, without, times-push_same, times-without_same, Event, Tried, counted, made, looked, loaded, turned, put_back, raised, cleared, mapped, Moment, at_start, moment_next, Holders, no_holders, finder, users_after, users_next, last_users, Measure, value, part}
 use Rattle.std.specs.Prelude.{Some, None, Option as Maybe, take}

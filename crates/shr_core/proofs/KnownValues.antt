@@ -1,3 +1,4 @@
+-- SPDX-License-Identifier: GPL-2.0-only
 -- The words of the table at known values.
 use Rattle.shr_core.proofs.Common.{◌≡◌, ◌+◌, ◌*◌, refl, [], ◌∷◌, Some, None, List, ℕ, Registered, Unregistered, Idle, place_number, place_at, row_in, places_in, rooms_in, words_in, counts_in, locks_in, bits_in, map_of, map_number, place_bit, above, version_of, length_of, Sizes, word_in, turn_at, met_in, owed_after, raise}
 

@@ -1,3 +1,4 @@
+-- SPDX-License-Identifier: GPL-2.0-only
 -- What a journal says of an id lasts while it gains no entry of that id.
 use Rattle.shr_core.proofs.Common.{◌≡◌, ℕ, ◌+◌, ◌≤◌, Bool, true, false, cond, eqb, List, [], ◌∷◌, ◌++◌, length, drop, refl, ap, ◌∙◌, arith, ne_eqb, eq-eqb, length-append, dite, ℕ_discrete, PoolEntry, Registered, Unregistered, Idle, decl_of, decl_after, from_of, from_after, is_before, Begins}
 use Rattle.std.specs.Prelude.{Some, None, Option as Maybe}

@@ -1,3 +1,4 @@
+-- SPDX-License-Identifier: GPL-2.0-only
 -- Numbers of places, rows and words answer to one another.
 use Rattle.shr_core.proofs.Common.{◌≡◌, ◌⊎◌, inl, inr, ℕ, ◌+◌, ◌*◌, ◌/◌, ◌%◌, ◌<◌, ◌≤◌, ◌≢◌, Bool, true, false, cond, ltb, ◌&&◌, List, length, set, get_or, sym, refl, ap, ◌∙◌, ⊎_elim, arith, lt-ltb, get_or-set_same, get_or-set_other, cases_Bool, nat_tests, dite, dec_lt, some, set_else, Place, place_number, Sizes, row_count, row_of, Shape, Slot, is_row, row_in, counts_in, locks_in, bits_in, homes_in, places_in, rooms_in, words_in, place_id, node_of, group_of, place_at, sizes_of, groups_in, IsInside, IsRoom, set_here, place_of_row}
 use Rattle.std.proofs.Math.Nat.{mod-lt}

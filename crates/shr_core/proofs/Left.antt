@@ -1,3 +1,4 @@
+-- SPDX-License-Identifier: GPL-2.0-only
 -- What a last state's rule says of the one seat that is left.
 use Rattle.shr_core.proofs.Common.{◌≡◌, ℕ, ◌+◌, ◌%◌, ◌<◌, ◌≤◌, true, false, cond, List, map, length, sym, refl, ap, subst, ◌∙◌, ⊎_elim, arith, Contains, nat_lt, nat_le, ◌&&◌, None, Some, bit_at, cases_Bool, at_map, is_closed, moved_in, phase_of, last_number, IsPoolJournal, PoolEntry, Place, place_number, Each, IsWhole, total, times, Begins, View, Setting, Traces, Marks, Claims, Turns, counts_in, bits_in, looks_in, places_in, place_at, place_id, node_of, group_of, above, map_of, place_bit, sizes_of, refs_of, lookups_of, spent, IsTried, IsTurn, IsDated, HasLastEnd, only_some, hit, hit_attempt, hit_turn, half_of, holding_of, traces_of, marks_of, claims_of, turns_of, IsClosedOf, stands_at, did_in, IsMoment, last_moment, lined_sole}
 use Rattle.shr_core.proofs.Options.{only_none}

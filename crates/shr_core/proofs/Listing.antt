@@ -1,3 +1,4 @@
+-- SPDX-License-Identifier: GPL-2.0-only
 -- The family of journals keeps its part of the rule.
 use Rattle.shr_core.proofs.Common.{◌≡◌, ◌⊎◌, ℕ, ◌+◌, ◌<◌, ◌≤◌, ◌≢◌, Bool, true, false, List, [], ◌∷◌, ◌++◌, length, take, set, sym, refl, ap, subst, ◌∙◌, inl, inr, ⊎_elim, arith, length-append, append-nil, take_all, none-some, Contains, Option, Some, None, dite, ℕ_discrete, some, some-injective, get_elem?, at_set, Object, Entry, Add, Look, Drop, Pin, Scan, MovedIn, Closed, Drained, place_number, IsTree, parent_of, is_child, step, IsOutcome, is_closed, is_closing, HasJournal, moved_in, MayStand, IsAllowed, Has_from_Contains, Contains_from_Has, child_takes, total, total_same, total-set, total-append, total_join, term_le, Each-set, Each-push, Each-join, Each-one, Each-none, some_term, Shape, View, Hand, Holding, no_rooms, place_id, node_of, group_of, place_at, beside, above, Journals, Histories, half_of, has_room, is_room, AreLists, AreBorn, items_now, only_some, in_hand, moved_in_hand, slice_get_cases, dec_le, at_group, items_from, before_closed, lists_moved_at, items_at, items_of, items_given, moved_by, IsLegal, Has, child_higher, family_of, IsHalfSpliced}
 use Rattle.shr_core.proofs.Options.{some_or_not, not_some, one_some, only_some_yes, only_some_no, only_none, only_some_is}

@@ -1,3 +1,4 @@
+-- SPDX-License-Identifier: GPL-2.0-only
 -- Loads of count words and bit words keep the rule.
 use Rattle.shr_core.proofs.Common.{◌≡◌, ℕ, ◌+◌, ◌*◌, ◌/◌, ◌<◌, ◌≤◌, Bool, true, false, cond, eqb, List, [], length, map, set, get_or, sym, refl, ap, subst, ◌∙◌, arith, eq-eqb, ne_eqb, length-append, bit_at, dite, ℕ_discrete, keeps, Allows, Entry, without, Begins, times-without_other, View, Setting, Marks, Claims, row_in, counts_in, bits_in, looks_in, is_row, places_in, length_of, version_of, sizes_of, Sound, IsInside, items_now, AreMarks, phases, marks_of, traces_of, claims_of, Sat, with_count, with_drained, with_map}
 use Rattle.std.proofs.lemmas.List.{nil_from_length}

@@ -1,3 +1,4 @@
+-- SPDX-License-Identifier: GPL-2.0-only
 -- Steps on lookup words keep the rule.
 use Rattle.shr_core.proofs.Common.{◌≡◌, ◌⊎◌, ℕ, zero, suc, ◌+◌, ◌-◌, ◌*◌, ◌%◌, ◌^◌, ◌<◌, ◌≤◌, ◌≢◌, Bool, true, false, cond, eqb, List, [], ◌∷◌, ◌++◌, map, length, set, get_or, sym, refl, ap, subst, ◌∙◌, ⊎_elim, arith, eq-eqb, ne_eqb, lt-ltb, le-ltb, get_or-set_same, get_or-set_other, none-some, same_Some, nat_tests, dite, ℕ_discrete, dec_lt, some, get_elem?, State, keeps, Allows, at_map, LookupWord, PoolEntry, HasJournal, phase_of, decl_of, from_of, registrations, decl_at, is_live_decl, lowest_idle, is_free, IsNextPool, phase_of_push, Each, by_seat, total, times, only_no, term_le, terms_le, Each-push, Each-set, View, Slot, Setting, RoomContent, Claims, Event, put_back, counts_in, locks_in, bits_in, looks_in, homes_in, places_in, place_id, above, sizes_of, refs_of, lookups_of, phase_in, decl_in, word_in, IsRoom, Sound, HasLastEnd, HasOwnEnd, Fits, IsRoomAtHome, AreMarks, AreLookupsOf, AreOwned, AreTurns, IsLoaded, met_now, phases, has_room, mark_of, holding_of, marks_of, claims_of, turns_of, is_some_of, only_some, Sat, with_word, with_leave, with_given_up, with_lookup, with_put, put_events, turn_at, undrained, with_phase, MayPhase, in_hand, worded, raise, phase_told, without_id}
 use Rattle.shr_core.proofs.Options.{one_some, is_some_is, only_some_yes, only_some_no}

@@ -1,3 +1,4 @@
+-- SPDX-License-Identifier: GPL-2.0-only
 -- The marks keep their part of the rule.
 use Rattle.shr_core.proofs.Common.{◌≡◌, ◌⊎◌, ℕ, ◌%◌, ◌<◌, ◌≤◌, ◌≢◌, List, [], ◌∷◌, ◌++◌, set, sym, refl, ap, subst, ◌∙◌, inl, inr, ⊎_elim, arith, bit_at, dite, ℕ_discrete, some, get_elem?, Each, total, times, without, total_same, total-set, Each-set, Each-push, Each-weaker, times-without_other, times-push_le, times-push_same, times-push_other, term_le, Marks, Mapped, places_in, group_of, map_of, place_bit, place_id, AreMarks, IsMapped, IsShown, HasOnlyIds}
 

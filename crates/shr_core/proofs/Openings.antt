@@ -1,3 +1,4 @@
+-- SPDX-License-Identifier: GPL-2.0-only
 -- The table at the start meets the rule.
 use Rattle.shr_core.proofs.Common.{◌≡◌, ◌⊎◌, ℕ, zero, suc, ◌+◌, ◌*◌, ◌%◌, ◌^◌, ◌<◌, ◌≢◌, true, false, List, [], ◌∷◌, ◌++◌, length, get_or, sym, refl, subst, ◌∙◌, inl, arith, length-append, ap, Some, None, none-some, bit_at, length-map, dite, ℕ_discrete, dec_lt, some, opening, at_map, PoolEntry, decl_of, last_number, from_of, Each, Begins, Each-one, Each-none, View, Slot, Setting, Hand, Traces, Marks, Claims, Turns, row_in, counts_in, locks_in, bits_in, looks_in, places_in, rooms_in, words_in, map_of, place_bit, sizes_of, IsShape, lookups_of, AreFreshRooms, AreFirstWords, HasOwnEnd, Sound, IsRoom, Fits, AreInHand, IsMade, IsKnown, IsSeen, IsMapped, IsShown, HasOnlyIds, IsTried, IsLoaded, IsHeld, IsOwner, IsTurn, IsDated, Journals, Histories, opener, spent, met_now, Sizes, ended_none, dying_none, IsPoolJournal_none, AreSeats-first}
 use Rattle.std.proofs.lemmas.Nat.Bits.{bit_at-zero}

@@ -1,3 +1,4 @@
+-- SPDX-License-Identifier: GPL-2.0-only
 -- What an Option is, and its weight in a sum: 1 where it is Some of one number, and else 0.
 use Rattle.shr_core.proofs.Common.{◌≡◌, ℕ, ◌<◌, refl, ap, ◌∙◌, arith, sym, true, false, eq-eqb, ne_eqb, cond, ◌≤◌, Option, Some, None, none-some, same_Some, dite, ℕ_discrete, only_yes, only_no, only_some, is_some_of}
 

@@ -1,3 +1,4 @@
+-- SPDX-License-Identifier: GPL-2.0-only
 -- Orders of events at known values, and stories that no order tells.
 use Rattle.shr_core.proofs.Common.{Bool, true, cond, sym, subst, arith, eq-eqb, ne_eqb, dite, ℕ_discrete, ◌≡◌, ℕ, ◌<◌, List, [], ◌∷◌, ◌++◌, Some, None, refl, some, get_elem?, Add, Closed, Drained, Registered, Unregistered, Idle, Serial, HasJournal, fresh, Deed, Event, counted, made, looked, loaded, turned, put_back, raised, cleared, mapped, place_id, AreEvents, AreOwn, last_moment, entries, lookups, AreInUse}
 use Rattle.shr_model.specs.Items.{items_from}

@@ -1,3 +1,4 @@
+-- SPDX-License-Identifier: GPL-2.0-only
 -- The order of all events while seats do more, are split and are joined, on plain data.
 use Rattle.shr_core.proofs.Common.{◌≡◌, ◌⊎◌, ℕ, zero, suc, ◌+◌, ◌-◌, ◌%◌, ◌<◌, ◌≤◌, ◌≢◌, Bool, true, false, cond, eqb, List, [], ◌∷◌, ◌++◌, map, length, set, sym, refl, ap, subst, ◌∙◌, ⊎_elim, inl, inr, arith, eq-eqb, ne_eqb, length-set, length-append, bit_at, dite, ℕ_discrete, dec_lt, some, some-injective, some-ne-none, get_elem?, at_set, at_map, LookupWord, Entry, PoolEntry, HasJournal, phase_of, decl_of, is_live, Deed, total, only, times, without, only_yes, only_no, term_le, total-append, times-push_same, times-push_other, times-without_same, times-without_other, state_after_push, View, Claims, Event, Counted, Made, Mapped, counted, made, looked, loaded, turned, put_back, raised, cleared, mapped, places_in, place_id, map_of, place_bit, refs_of, lookups_of, opener, spent, claims_of, only_some, Moment, at_start, moment_after, moment_next, IsDrawnAt, IsTimely, IsSo, last_moment, IsMoment, Holders, no_holders, holders_after, holders_next, IsOwn, users_after, users_next, last_users, IsMadeInUse, ids_of, stands_at, did_in, AreOrdered, noted, turn_at, with_one_split, split_off, with_joined, AreSo-push, lined_keep, lined_do, lined_split, lined_join, lined_first, LeavesNothing, last_holders, IsOutOfUse, IsInUse, references_of}
 use Rattle.std.specs.Prelude.{Some, None, Option as Maybe}

@@ -1,3 +1,4 @@
+-- SPDX-License-Identifier: GPL-2.0-only
 -- What a call leaves owed.
 use Rattle.shr_core.proofs.Common.{◌≡◌, ◌<◌, ℕ, List, [], ◌∷◌, refl, subst, arith, times, View, OwesNoMore}
 

@@ -1,3 +1,4 @@
+-- SPDX-License-Identifier: GPL-2.0-only
 -- Owned ids and empty lists keep their part of the rule.
 use Rattle.shr_core.proofs.Common.{◌≡◌, ◌⊎◌, ℕ, zero, suc, ◌+◌, ◌%◌, ◌<◌, ◌≤◌, ◌≢◌, Bool, true, false, cond, List, [], ◌∷◌, ◌++◌, length, set, get_or, sym, refl, ap, subst, ◌∙◌, inl, inr, ⊎_elim, arith, length-set, get_or-set_same, get_or-set_other, Some, None, nat_tests, dite, ℕ_discrete, dec_lt, some, get_elem?, at_set, Object, LookupWord, PoolEntry, phase_of, phase_of_push, total, total_same, total-set, total_zero, term_le, terms_le, Each-set, Shape, Claims, group_of, node_of, place_id, AreOwned, IsOwner, IsInside, Journals, Histories, items_now, mark_of, only_some, is_some_of, groups_in, turn_at, undrained, is_drained, drained_after, is_empty}
 use Rattle.shr_core.proofs.Options.{not_some, one_some, is_some_is, only_some_yes, only_some_no, only_none}

@@ -1,3 +1,4 @@
+-- SPDX-License-Identifier: GPL-2.0-only
 -- What each step does to the fields of a lookup word.
 use Rattle.shr_core.proofs.Common.{◌≡◌, ℕ, ◌+◌, ◌-◌, ◌*◌, ◌%◌, ◌<◌, arith, refs_of, lookups_of, phase_in, decl_in}
 

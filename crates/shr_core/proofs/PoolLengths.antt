@@ -1,3 +1,4 @@
+-- SPDX-License-Identifier: GPL-2.0-only
 -- How long a pool's journal is, and which declarations its ids have.
 use Rattle.shr_core.proofs.Common.{◌≡◌, ◌≢◌, ℕ, zero, suc, ◌+◌, ◌*◌, ◌<◌, ◌≤◌, List, [], ◌∷◌, ◌++◌, length, take, sym, refl, ap, subst, arith, length-append, eq-eqb, ne_eqb, Bool, cond, take_all, dite, ℕ_discrete, PoolEntry, Registered, Unregistered, Idle, decl_of, decl_after, IsNextPool, IsPoolJournal, one_of, phase_of_push, decl_from_push}
 use Rattle.shr_model.specs.Pool.{id_of, phase_of}

@@ -1,3 +1,4 @@
+-- SPDX-License-Identifier: GPL-2.0-only
 -- Events stand in the order of their numbers.
 use Rattle.shr_core.proofs.Common.{◌≡◌, ℕ, ◌+◌, ◌<◌, ◌≤◌, cond, eqb, List, [], ◌∷◌, ◌++◌, length, sym, refl, ap, ◌∙◌, arith, eq-eqb, ne_eqb, length-append, dite, ℕ_discrete, some, get_elem?, PoolEntry, Registered, Unregistered, Idle, Deed, total, Event, counted, made, looked, loaded, turned, put_back, raised, cleared, mapped, Moment, at_start, moment_after, moment_next, IsDrawnAt, IsSo, AreEvents, last_moment, Measure, entries, lookups, value, in_order, counted_once, turns, EntryTells, EventTells}
 

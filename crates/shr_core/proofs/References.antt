@@ -1,3 +1,4 @@
+-- SPDX-License-Identifier: GPL-2.0-only
 -- A load that shows no reference stands behind the puts of all lookups before it.
 use Rattle.shr_core.proofs.Common.{◌≡◌, ◌⊎◌, ℕ, zero, suc, ◌+◌, ◌<◌, ◌≤◌, ◌-◌, inl, inr, ⊎_elim, Bool, cond, List, [], ◌∷◌, ◌++◌, length, sym, refl, ap, subst, ◌∙◌, arith, eq-eqb, ne_eqb, length-append, dite, ℕ_discrete, some, some-injective, some-ne-none, get_elem?, Deed, AreSo, times, without, times-push_same, times-push_le, times-without_other, Event, Tried, Loaded, counted, made, looked, loaded, turned, put_back, raised, cleared, mapped, Moment, at_start, moment_after, moment_next, IsSo, AreEvents, Holders, no_holders, holders_after, holders_next, IsOwn, AreOwn}
 

@@ -1,3 +1,4 @@
+-- SPDX-License-Identifier: GPL-2.0-only
 -- Steps on lock words keep the rule.
 use Rattle.shr_core.proofs.Common.{◌≡◌, ℕ, ◌+◌, ◌*◌, ◌<◌, ◌≤◌, Bool, true, false, eqb, List, [], ◌∷◌, ◌++◌, map, length, set, get_or, sym, refl, ap, subst, ◌∙◌, ⊎_elim, arith, length-set, some, some-injective, get_elem?, State, Act, Valid, keeps, Allows, stepped, carried_after, exchanged, Entry, PoolEntry, Contains, Some, take, None, dite, ℕ_discrete, parent_of, is_child, is_closed, is_closing, HasJournal, moved_in, MayStand, child_takes, some_term, terms_le, Begins, Sizes, View, Slot, Shape, Setting, RoomContent, Claims, Holding, row_in, locks_in, homes_in, looks_in, places_in, rooms_in, group_of, above, beside, bits_in, sizes_of, groups_in, Sound, IsInside, IsRoom, AreBorn, Journals, Histories, Fits, IsRoomAtHome, list_content, has_room, half_of, holding_of, traces_of, claims_of, turns_of, Sat, with_taken, with_try, with_given, with_pool_given, in_hand, took, place_content, turns_content, PlaceTold, PoolTold, IsInHand, none, takes, gives, slice_get, ◌||◌, dying_in, slot_content}
 use Rattle.shr_core.proofs.Options.{only_some_is, not_some}

@@ -1,3 +1,4 @@
+-- SPDX-License-Identifier: GPL-2.0-only
 -- Rooms and hands keep their part of the rule.
 use Rattle.shr_core.proofs.Common.{◌≡◌, ℕ, suc, ◌<◌, ◌≤◌, ◌≢◌, Bool, true, false, cond, eqb, List, [], ◌∷◌, set, sym, refl, ap, subst, ◌∙◌, ⊎_elim, arith, eq-eqb, ne_eqb, dite, ℕ_discrete, some, some-ne-none, get_elem?, at_set, Each, total, only, total_same, total-set, term_le, terms_le, Each-set, Each-cons, only_yes, only_no, Slot, RoomContent, Hand, Holding, AreRooms, AreInHand, is_room, has_room, content_in, without_room, with_content}
 use Rattle.std.specs.Prelude.{Option as Maybe}

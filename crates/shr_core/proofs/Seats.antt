@@ -1,3 +1,4 @@
+-- SPDX-License-Identifier: GPL-2.0-only
 -- Splitting a seat, and taking one in, keep the rule.
 use Rattle.shr_core.proofs.Common.{◌≡◌, ◌⊎◌, ℕ, ◌+◌, ◌<◌, ◌≢◌, true, false, List, [], ◌∷◌, ◌++◌, map, length, set, get_or, sym, refl, ap, ◌∙◌, inl, inr, ⊎_elim, arith, length-set, length-append, Some, None, none-some, length-map, some, get_elem?, Splits, Joins, at_map, set_else, PoolEntry, Each, AreSeats, total, times, only, Begins, total-append, total_join, Each-one, Each-set, Each-push, Each-append, Each-none, Each-join, Each-weaker, View, Slot, Shape, Setting, RoomContent, Hand, Holding, Traces, Marks, Claims, Turns, no_rooms, no_marks, no_claims, no_turns, counts_in, locks_in, bits_in, looks_in, homes_in, places_in, node_of, sizes_of, IsRoom, HasOwnEnd, Sound, Fits, IsRoomAtHome, Journals, Histories, AreRooms, AreRoomsOf, AreLists, AreInHand, AreTraces, IsMade, IsKnown, IsSeen, AreMarks, IsMapped, IsShown, HasOnlyIds, AreLookups, AreLookupsOf, IsTried, IsLoaded, IsHeld, AreOwned, IsOwner, AreTurns, AreDated, IsTurn, phases, is_room, has_room, hit, hit_attempt, hit_turn, spent, holding_of, traces_of, marks_of, claims_of, turns_of, view_standing, only_some, with_one_split, split_off, with_joined, AreSeats-split, AreSeats-join, no_traces, IsAtRest}
 use mathlib.Core.Option.{Option}

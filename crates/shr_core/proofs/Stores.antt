@@ -1,3 +1,4 @@
+-- SPDX-License-Identifier: GPL-2.0-only
 -- A step on a count word keeps the rule.
 use Rattle.shr_core.proofs.Common.{◌≡◌, ◌⊎◌, ℕ, ◌+◌, ◌*◌, ◌%◌, ◌<◌, ◌≤◌, ◌≢◌, Bool, true, false, cond, eqb, ltb, List, [], ◌∷◌, ◌++◌, map, length, set, sym, refl, ap, subst, ◌∙◌, inl, inr, ⊎_elim, arith, eq-eqb, ne_eqb, lt-ltb, length-append, ◌&&◌, Some, nat_tests, dite, ℕ_discrete, keeps, Allows, Serial, Object, Entry, Add, Look, Drop, Pin, Scan, MovedIn, Closed, Drained, PoolEntry, phase_of, IsTree, parent_of, is_child, step, IsOutcome, is_closed, IsAllowed, MayStand, Listed, times, Sizes, times-push_le, times-push_same, terms_le, View, Shape, Setting, RoomContent, row_in, counts_in, locks_in, bits_in, looks_in, homes_in, places_in, place_id, group_of, beside, above, sizes_of, groups_in, IsShape, Sound, IsRoom, Fits, IsRoomAtHome, IsInside, Journals, Histories, items_now, has_room, phases, holding_of, traces_of, marks_of, claims_of, AreTraces, AreOwned, Sat, with_stored, IsLater, in_hand, owed_after, half_after, last_entry, moved_in_hand, IsBacked, MayStore, Moment, IsTimely, Holders, last_users, IsMadeInUse, and_false}
 use Rattle.shr_core.proofs.Options.{not_some}

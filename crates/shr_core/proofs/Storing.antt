@@ -1,3 +1,4 @@
+-- SPDX-License-Identifier: GPL-2.0-only
 -- What may be stored after a call of the list in hand, and what is in hand then.
 use Rattle.shr_core.proofs.Common.{◌≡◌, ℕ, ◌<◌, List, [], ◌∷◌, ◌++◌, length, sym, refl, ap, subst, ◌∙◌, inl, ⊎_elim, arith, length-append, None, Entry, Object, step, IsOutcome, MayStand, IsAllowed, Has_from_Contains, Contains_from_Has, child_takes, Listed, View, Shape, RoomContent, group_of, has_room, list_content, IsInside, in_hand, moved_in_hand, last_entry, half_after, with_taken, with_stored, IsBacked, MayStore, IsInHand, IsBornAt, IsTaken, IsUnspliced}
 use Rattle.shr_core.proofs.Options.{not_some}

@@ -1,3 +1,4 @@
+-- SPDX-License-Identifier: GPL-2.0-only
 -- The traces keep their part of the rule.
 use Rattle.shr_core.proofs.Common.{◌≡◌, ℕ, ◌+◌, ◌<◌, ◌≤◌, ◌≢◌, cond, eqb, ltb, List, [], ◌∷◌, ◌++◌, length, set, sym, refl, ap, subst, ◌∙◌, arith, length-append, eq-eqb, ne_eqb, le-ltb, append-nil, dite, ℕ_discrete, dec_lt, some, get_elem?, Object, Entry, Each, total, Begins, total_same, total-set, total-append, term_le, Each-set, Each-push, Each-weaker, begins_all, begins_more, at_begins, Shape, Traces, Made, Counted, places_in, length_of, version_of, AreTraces, IsMade, IsKnown, IsSeen, Journals, Histories, items_now, hit, later, Known, AreCounts}
 

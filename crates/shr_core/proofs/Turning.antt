@@ -1,3 +1,4 @@
+-- SPDX-License-Identifier: GPL-2.0-only
 -- The pool's journal keeps its part of the rule.
 use Rattle.shr_core.proofs.Common.{◌≡◌, ℕ, ◌+◌, ◌<◌, List, [], ◌∷◌, ◌++◌, length, set, refl, subst, ◌∙◌, arith, length-append, dite, ℕ_discrete, dec_lt, some, get_elem?, PoolEntry, IsNextPool, Each, total, Begins, total_same, total-set, total-append, term_le, Each-set, Each-push, Each-weaker, only_yes, only_no, begins_all, begins_push, begins_more, at_begins, Turns, Turn, Dated, AreTurns, IsTurn, hit_turn, later, IsPoolJournal_push}
 use Rattle.shr_core.proofs.Tracing.{below_no}

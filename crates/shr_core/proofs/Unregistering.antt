@@ -1,3 +1,4 @@
+-- SPDX-License-Identifier: GPL-2.0-only
 -- That an owner made the last Unregistered of its id is kept.
 use Rattle.shr_core.proofs.Common.{◌≡◌, ◌≢◌, ℕ, zero, suc, ◌%◌, ◌<◌, true, false, List, [], ◌∷◌, ◌++◌, length, set, sym, refl, ap, subst, ◌∙◌, ⊎_elim, arith, eq-eqb, ne_eqb, length-append, Some, dite, ℕ_discrete, some, some-ne-none, get_elem?, at_set, LookupWord, PoolEntry, phase_of, one_of, phase_of_push, Each, View, Shape, Turn, HasLastEnd, HasOwnEnd, turn_at, at_snoc, at_longer, at_last, take-append-le, ends_registration}
 use Rattle.shr_core.proofs.Options.{one_some, not_some}

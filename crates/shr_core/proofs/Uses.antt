@@ -1,3 +1,4 @@
+-- SPDX-License-Identifier: GPL-2.0-only
 -- The seats that use an id, event by event.
 use Rattle.shr_core.proofs.Common.{◌≡◌, ℕ, ◌≢◌, Bool, true, false, cond, eqb, List, [], ◌∷◌, ◌++◌, sym, refl, ap, ◌∙◌, arith, eq-eqb, ne_eqb, append-nil, dite, ℕ_discrete, Deed, by_seat, state_after, only, times, without, only_yes, only_no, times-push_same, times-push_other, times-without_same, times-without_other, state_after_push, View, Event, counted, made, looked, loaded, turned, put_back, raised, cleared, mapped, Holders, no_holders, finder, users_after, users_next, last_users, ids_of, noted, with_put, put_events, IsUsing}
 use Rattle.std.specs.Prelude.{Some, None, Option as Maybe}

@@ -1,3 +1,4 @@
+-- SPDX-License-Identifier: GPL-2.0-only
 -- What a lookup of an id that the seat met answers, by what its seat's view gains.
 use Rattle.std.specs.Prelude.{◌≡◌, ◌≢◌, ◌⊎◌, ℕ, ◌+◌, ◌%◌, ◌<◌, [], ◌∷◌, ◌++◌, length}
 use Rattle.shr_base.specs.declared.ends.LookupWord.{LookupWord}

@@ -1,3 +1,4 @@
+-- SPDX-License-Identifier: GPL-2.0-only
 -- What a lookup answers, by what its seat's view gains.
 use Rattle.std.specs.Prelude.{◌≡◌, ◌≢◌, ℕ, ◌%◌, ◌<◌, ◌≤◌, List, true, false, Some, None}
 use Rattle.shr_base.specs.declared.ends.LookupWord.{LookupWord}

@@ -1,3 +1,4 @@
+-- SPDX-License-Identifier: GPL-2.0-only
 -- What a core leaves when it is finished.
 use Rattle.std.specs.Prelude.{◌≡◌, ℕ, zero, suc, ◌+◌, ◌/◌, ◌^◌, ◌<◌, All, List, [], ◌∷◌, ◌++◌, map, cond, ◌==◌, if◌then◌else◌}
 use mathlib.Core.Option.{Option, none, some}

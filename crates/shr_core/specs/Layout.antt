@@ -1,3 +1,4 @@
+-- SPDX-License-Identifier: GPL-2.0-only
 -- Where each word and each room lies. A place has its number, by which views and journals name it,
 -- whatever the sizes: strides are those of 4 nodes and 256 groups. Words and rooms stand in rows,
 -- one for each place of the sizes and one for the pool.

@@ -1,3 +1,4 @@
+-- SPDX-License-Identifier: GPL-2.0-only
 -- What a finished core says of the one seat that is left, over journals and numbers alone.
 use Rattle.std.specs.Prelude.{◌≡◌, ℕ, ◌+◌, ◌*◌, ◌/◌, ◌%◌, ◌<◌, ◌≤◌, List, [], map, length, cond, ◌&&◌, nat_lt, nat_le, true, Contains, None}
 use Rattle.std.specs.Int.{bit_at}

@@ -1,3 +1,4 @@
+-- SPDX-License-Identifier: GPL-2.0-only
 pub mod Slots
 pub mod Layout
 pub mod Lookup

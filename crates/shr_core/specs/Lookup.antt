@@ -1,3 +1,4 @@
+-- SPDX-License-Identifier: GPL-2.0-only
 -- The fields of a lookup word: declaration 63 to 56, phase 55 to 40, lookups 39 to 8, references 7
 -- to 0.
 use Rattle.std.specs.Prelude.{ℕ, ◌-◌, ◌/◌, ◌%◌, ◌^◌}

@@ -1,3 +1,4 @@
+-- SPDX-License-Identifier: GPL-2.0-only
 -- What a seat's view holds, in its parts. Places are named by their numbers.
 use Rattle.std.specs.Prelude.{ℕ, List, [], Option, None, Bool, false}
 use Rattle.shr_base.specs.declared.objects.Object.{Object}

@@ -1,3 +1,4 @@
+-- SPDX-License-Identifier: GPL-2.0-only
 -- The rule of the core table. Each part speaks of the words of one kind and of one part of the
 -- views.
 use Rattle.std.specs.Prelude.{◌≡◌, ◌≢◌, ◌⊎◌, ℕ, ◌+◌, ◌-◌, ◌*◌, ◌/◌, ◌%◌, ◌^◌, ◌<◌, ◌≤◌, List, [], ◌∷◌, ◌++◌, map, length, cond, ◌==◌, ◌&&◌, nat_lt, nat_le, max, slice_index, if◌then◌else◌, Some, None, Bool, true, false, Contains, take, drop}

@@ -1,3 +1,4 @@
+-- SPDX-License-Identifier: GPL-2.0-only
 -- What is true of each seat.
 use Rattle.std.specs.Prelude.{◌≡◌, [], None, false, true}
 use Rattle.shr_core.specs.declared.table.Core.{Core}

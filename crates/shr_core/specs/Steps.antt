@@ -1,3 +1,4 @@
+-- SPDX-License-Identifier: GPL-2.0-only
 -- What each step makes of its seat's view, and what it tells besides.
 use Rattle.std.specs.Prelude.{◌≡◌, ◌≢◌, ℕ, ◌+◌, ◌*◌, ◌%◌, ◌<◌, ◌≤◌, List, [], ◌∷◌, ◌++◌, cond, ◌==◌, ◌&&◌, nat_lt, Bool, true, false, length, slice_set, if◌then◌else◌, Option, Some, None, Contains, take, slice_get}
 use Rattle.std.specs.Int.{bit_at}

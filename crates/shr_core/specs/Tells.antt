@@ -1,3 +1,4 @@
+-- SPDX-License-Identifier: GPL-2.0-only
 -- What each step tells the call that makes it, of the number found and of the seat after it.
 use Rattle.std.specs.Prelude.{◌≡◌, ◌≢◌, ℕ, ◌+◌, ◌-◌, ◌*◌, ◌%◌, ◌^◌, ◌<◌, ◌≤◌, ◌==◌, cond, ◌∷◌, List, [], true, length, Some}
 use Rattle.shr_base.specs.declared.ends.LookupWord.{LookupWord}

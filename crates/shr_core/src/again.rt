@@ -1,3 +1,4 @@
+// SPDX-License-Identifier: GPL-2.0-only
 //! Looking up again an id that the seat met.
 ghost use Rattle.std.specs.Prelude.{◌≡◌, ◌%◌, ◌<◌, false, None, IfSome};
 ghost use Rattle.shr_model.specs.Pool.{phase_of};
@@ -18,7 +19,7 @@ use atomic_table::Seat as Token;
 use std::marker::Brand;
 
 /// A lookup of an id that the seat met: the id is held by the lookup with this number, and what the
-/// seat knows of the journal has `entry` entries. Our own.
+/// seat knows of the journal has `entry` entries.
 #[derive(Clone, Copy)]
 pub struct Again {
     pub id: u16,
@@ -31,7 +32,7 @@ pub struct Again {
 const TRIES: usize = 8;
 
 impl Core {
-    /// One load of an id's lookup word. Our own.
+    /// One load of an id's lookup word.
     pub(crate) fn peek(&self, token: &mut Token<Slot, View>, id: u16) -> u64
         requires seat { IsHere self.now token.old }
         requires id { id < (shape_of self.now).ids }
@@ -122,7 +123,7 @@ impl<'a> Seat<'a> {
         })
     }
 
-    /// Keeps a registration that was met, by all that the seat knows of the pool's journal. Our own.
+    /// Keeps a registration that was met, by all that the seat knows of the pool's journal.
     pub fn keep(&mut self, met: Met)
         requires met { IsMet (shape_of self.old.core) (view_of self.old).turns.known met }
         ensures same { self.new ≡ self.old }

@@ -1,3 +1,4 @@
+// SPDX-License-Identifier: GPL-2.0-only
 //! Count words and bit words.
 ghost use Rattle.std.specs.Prelude.{◌≡◌, ◌/◌, ◌*◌, ◌^◌, ◌<◌, MatchBool};
 ghost use Rattle.shr_model.specs.PlaceNumbers.{place_number};
@@ -24,7 +25,7 @@ pub struct Seen {
     pub version: u32,
 }
 
-/// The number of a place, whatever the sizes. Our own.
+/// The number of a place, whatever the sizes.
 pub(crate) fn number_of(place: Place) -> usize
     ensures { result ≡ place_number place }
 {
@@ -43,7 +44,7 @@ fn map_with(place: Place) -> Place
 }
 
 impl Core {
-    /// The row of a place. Our own.
+    /// The row of a place.
     pub(crate) fn row(&self, place: Place) -> usize
         requires { IsPlaceOfShape (shape_of self.now) place }
         ensures row { result ≡ row_in (sizes_of (shape_of self.now)) (place_number place) }

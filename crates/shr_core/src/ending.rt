@@ -1,3 +1,4 @@
+// SPDX-License-Identifier: GPL-2.0-only
 //! What a core leaves when it is finished.
 ghost use Rattle.std.specs.Prelude.{◌≡◌, ℕ, ◌+◌, ◌*◌, ◌<◌, ◌≤◌, ◌++◌, ◌==◌, if◌then◌else◌, [], map, false, true, IfOk, OnOk, slice_index_or};
 ghost use Rattle.std.specs.Mem.Slots.{slots_items, slots_filled, slots_len, IsFull};
@@ -37,7 +38,7 @@ fn add_end(ends: &mut Log<PlaceEnd>, place: Place, slot: Slot) -> Result<(), Mem
     })
 }
 
-/// How many places have a journal, by their count words. Our own.
+/// How many places have a journal, by their count words.
 pub(crate) fn used_places(ended: &Ended<Slot, Global>, sizes: Sizes) -> usize
     requires { (slots_len ended.now.words ≡ words_in sizes) × IsFull ended.now.words }
     ensures { result ≤ row_count sizes }
@@ -52,7 +53,7 @@ pub(crate) fn used_places(ended: &Ended<Slot, Global>, sizes: Sizes) -> usize
 }
 
 /// Empties the rooms of all places, and gives what the places had, in a list that begins with room for
-/// so many. Once memory has run out, the rooms after that are emptied too. Our own.
+/// so many. Once memory has run out, the rooms after that are emptied too.
 pub(crate) fn take_ends(
     alloc: Global,
     ended: &mut Ended<Slot, Global>,
@@ -93,7 +94,7 @@ fn add_where(ends: &mut Log<PlaceEnd>, place: Place, slot: Slot, whole: bool) ->
     whole && add_end(ends, place, slot).is_ok()
 }
 
-/// The number of lookups of each id. Our own.
+/// The number of lookups of each id.
 pub(crate) fn read_lookups(
     alloc: Global,
     ended: &Ended<Slot, Global>,
@@ -187,7 +188,7 @@ fn add_groups(
     Ok(())
 }
 
-/// The bit words of all nodes and of all groups below the root. Our own.
+/// The bit words of all nodes and of all groups below the root.
 pub(crate) fn read_maps(
     alloc: Global,
     ended: &Ended<Slot, Global>,

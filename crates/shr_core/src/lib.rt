@@ -1,3 +1,4 @@
+// SPDX-License-Identifier: GPL-2.0-only
 //! The core table: the words and rooms that the threads of a run share, under one rule.
 #![tactic(auto)]
 

@@ -1,3 +1,4 @@
+// SPDX-License-Identifier: GPL-2.0-only
 //! Lookup words, but for their phases.
 ghost use Rattle.std.specs.Prelude.{◌≡◌, ◌≢◌, ◌+◌, ◌-◌, ◌<◌, ◌⊎◌, false, ℕ, Option, Some, None};
 ghost use Rattle.shr_core.specs.Lookup.{word_in};
@@ -30,10 +31,10 @@ pub enum Lookup {
     Gone { number: u32 },
 }
 
-/// From this many lookups on, 2^32 - 256, an id is looked up no more. Our own.
+/// From this many lookups on, 2^32 - 256, an id is looked up no more.
 pub(crate) const LAST_LOOKUPS: u32 = u32::MAX - 255;
 
-/// Takes a lookup word apart. Our own.
+/// Takes a lookup word apart.
 pub(crate) fn unpack(word: u64) -> LookupWord
     ensures { result ≡ word_in word }
 {
@@ -82,7 +83,7 @@ impl Core {
 }
 
 impl<'a> Seat<'a> {
-    /// One load of an id's lookup word. Our own.
+    /// One load of an id's lookup word.
     pub fn word_of(&mut self, id: u16) -> LookupWord
         requires id { id < (shape_of self.old.core).ids }
         ensures loaded { self.new ≡ record self.old { view = with_word (view_of self.old) id result } }
@@ -93,7 +94,6 @@ impl<'a> Seat<'a> {
     }
 
     /// Gives up the id that the seat owns, with one load of its lookup word. The id stays dying.
-    /// Our own.
     pub fn give_up(&mut self, id: u16) -> LookupWord
         requires id { id < (shape_of self.old.core).ids }
         requires owned { (view_of self.old).claims.owner ≡ Some id }
@@ -105,7 +105,7 @@ impl<'a> Seat<'a> {
         )
     }
 
-    /// The id that the seat holds a reference to, if it holds one. Our own.
+    /// The id that the seat holds a reference to, if it holds one.
     pub fn holds(&self) -> Option<u16>
         ensures held { (id : ℕ) → result ≡ Some id → (view_of self.now).claims.held ≡ Some id }
         ensures free { result ≡ None → (view_of self.now).claims.held ≡ None }

@@ -1,3 +1,4 @@
+// SPDX-License-Identifier: GPL-2.0-only
 //! A core from its start to its end.
 ghost use Rattle.std.specs.Prelude.{◌≡◌, ◌≢◌, ◌%◌, ◌+◌, ◌*◌, ◌<◌, ◌≤◌, ◌^◌, [], All, IfOk, IsOk, length, true};
 ghost use Rattle.shr_core.specs.Opening.{IsFreshRoom, AreFreshRooms, AreFirstWords};
@@ -24,7 +25,7 @@ use shr_list::list::List;
 use shr_seats::shape::Shape;
 use std::alloc::Global;
 
-/// How the first seat is split, and how another is joined into it. Our own.
+/// How the first seat is split, and how another is joined into it.
 pub struct Parting;
 
 impl Split<View> for Parting {
@@ -121,7 +122,7 @@ impl Core {
         }
     }
 
-    /// The sizes that the core was made with. Our own.
+    /// The sizes that the core was made with.
     pub fn shape(&self) -> &Shape
         ensures { result.now ≡ shape_of self.now }
     {
@@ -129,7 +130,7 @@ impl Core {
     }
 
     /// Ends the core, and gives what is left of it. By then all other seats were joined. On
-    /// `Memory` the core is gone too. Our own.
+    /// `Memory` the core is gone too.
     pub fn finish(self, first: FirstSeat) -> Result<Closed, Memory>
         requires first { IsFirstOf self first }
         requires whole { IsWhole (first_view first).standing }
@@ -166,7 +167,7 @@ impl Core {
 
 impl<'a> Seat<'a> {
     /// One seat more. It knows the pool's entries that the first seat knows. It takes no memory
-    /// today. Our own.
+    /// today.
     pub fn split(&mut self) -> Result<Seat<'a>, Memory>
         requires first { (view_of self.old).standing.first ≡ true }
         requires few { (view_of self.old).standing.splits < 64 }
@@ -187,7 +188,7 @@ impl<'a> Seat<'a> {
     }
 
     /// Joins another seat of the core into the first, which takes over what that one has made and
-    /// seen. The other one is at rest. Our own.
+    /// seen. The other one is at rest.
     pub fn join(&mut self, other: Seat<'a>)
         requires first { (view_of self.old).standing.first ≡ true }
         requires table { other.core ≡ self.old.core }

@@ -1,3 +1,4 @@
+// SPDX-License-Identifier: GPL-2.0-only
 //! The pool's room, and the phases of ids.
 ghost use Rattle.std.specs.Prelude.{◌≡◌, ◌-◌, ◌*◌, ◌^◌, ◌<◌, ◌≤◌, [], MatchBool, false, length};
 ghost use Rattle.atomic_table.specs.Table.{rest};

@@ -1,3 +1,4 @@
+// SPDX-License-Identifier: GPL-2.0-only
 //! The rooms of places: taking, giving back, and storing a count.
 ghost use Rattle.std.specs.Prelude.{◌≡◌, ◌+◌, ◌*◌, ◌^◌, ◌<◌, ◌≤◌, List, ◌∷◌, MatchBool, false, map, length, Some, None, IfSome};
 ghost use Rattle.atomic_table.specs.Table.{rest};
@@ -37,7 +38,6 @@ pub struct Room {
 
 impl Core {
     /// Takes out the content of the slot that was taken last, and leaves none there.
-    /// Our own.
     pub(crate) fn lift(&self, token: &mut Token<Slot, View>, slot: usize) -> Slot
         requires { (token.old.table_id ≡ self.now.table.shared.table_id) × HasFirst token.old.me.1
             slot }
@@ -114,7 +114,7 @@ impl Core {
     }
 
     /// Brings a room's slot to the front of those that the seat has taken, and gives the rooms
-    /// without this one. Our own.
+    /// without this one.
     pub(crate) fn to_front(
         &self,
         token: &mut Token<Slot, View>,
@@ -260,7 +260,7 @@ impl<'a> Seat<'a> {
     }
 }
 
-/// One room more in hand. Our own.
+/// One room more in hand.
 pub(crate) fn one_more(rooms: InHand, number: usize) -> InHand
     requires { length (numbers_of rooms) ≤ 1 }
     ensures { numbers_of result ≡ number ∷ numbers_of rooms }

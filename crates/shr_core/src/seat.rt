@@ -1,3 +1,4 @@
+// SPDX-License-Identifier: GPL-2.0-only
 //! A seat.
 
 ghost use Rattle.std.specs.Prelude.{◌≡◌, [], true};
@@ -9,7 +10,7 @@ use crate::table::Core;
 use crate::view::View;
 use std::marker::Model;
 
-/// The rooms that a seat has in hand, by their numbers. Our own.
+/// The rooms that a seat has in hand, by their numbers.
 #[derive(Clone, Copy)]
 pub enum InHand {
     Nothing,
@@ -19,7 +20,7 @@ pub enum InHand {
 }
 
 /// A registration that a seat met: the declaration is live with the id in this phase, by all of the
-/// pool's journal that the seat knows, which has `entry` entries. Our own.
+/// pool's journal that the seat knows, which has `entry` entries.
 #[derive(Clone, Copy)]
 pub struct Met {
     pub decl: u8,
@@ -29,7 +30,7 @@ pub struct Met {
 }
 
 /// A thread's access to a core. Each seat has a view: what it has made and seen, holds and owes
-/// there. It keeps the registration that it met last until it takes the pool's journal again. Our own.
+/// there. It keeps the registration that it met last until it takes the pool's journal again.
 #[derive(Drop)]
 pub struct Seat<'a> {
     pub(crate) core: &'a Core,
@@ -51,7 +52,7 @@ impl<'a> Model for Seat<'a> {
     ghost invariant = { λ s. IsOf s.core.now s };
 }
 
-/// The first seat of a core while it isn't at the core: before the threads run, and after. Our own.
+/// The first seat of a core while it isn't at the core: before the threads run, and after.
 #[derive(Drop)]
 pub struct FirstSeat {
     pub(crate) token: atomic_table::Seat<Slot, View>,
@@ -59,7 +60,7 @@ pub struct FirstSeat {
 }
 
 impl FirstSeat {
-    /// The first seat at its core. Our own.
+    /// The first seat at its core.
     pub fn at<'a>(self, core: &'a Core) -> Seat<'a>
         requires first { IsFirstOf core.now self }
         ensures { result ≡ record { core = core.now; view = first_view self } }
@@ -76,7 +77,7 @@ impl FirstSeat {
 }
 
 impl<'a> Seat<'a> {
-    /// The core that the seat is of. Our own.
+    /// The core that the seat is of.
     pub fn core(&self) -> &'a Core
         ensures { result.now ≡ self.now.core }
     {
@@ -84,7 +85,6 @@ impl<'a> Seat<'a> {
     }
 
     /// The first seat leaves its core, so that the core can be ended. It has no room in hand.
-    /// Our own.
     pub fn leave(self) -> FirstSeat
         requires first { (view_of self).standing.first ≡ true }
         requires rest { (view_of self).holding.hands ≡ [] }

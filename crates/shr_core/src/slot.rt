@@ -1,3 +1,4 @@
+// SPDX-License-Identifier: GPL-2.0-only
 //! What lies in a slot of the table.
 
 ghost use Rattle.std.specs.Prelude.{◌≡◌, []};
@@ -18,7 +19,7 @@ enum Lodged {
 }
 
 /// The content of a room: the list of a place, or the pool's journal. Contracts see both, and the
-/// other of the two as empty. Our own.
+/// other of the two as empty.
 #[derive(Drop)]
 pub struct Slot {
     lodged: Lodged,
@@ -34,7 +35,7 @@ impl Model for Slot {
 }
 
 impl Slot {
-    /// A slot with neither. Our own.
+    /// A slot with neither.
     pub fn nothing(alloc: Global) -> Slot
         ensures list { result.list ≡ no_list }
         ensures pool { result.pool ≡ no_pool }
@@ -45,7 +46,7 @@ impl Slot {
         }
     }
 
-    /// A slot with the list of a place. Our own.
+    /// A slot with the list of a place.
     pub fn of_list(alloc: Global, list: List) -> Slot
         ensures list { result.list ≡ list }
         ensures pool { result.pool.items ≡ [] }
@@ -56,7 +57,7 @@ impl Slot {
         }
     }
 
-    /// A slot with the pool's journal. Our own.
+    /// A slot with the pool's journal.
     pub fn of_pool(alloc: Global, pool: Log<PoolEntry>) -> Slot
         ensures { result.pool ≡ pool }
     {
@@ -66,7 +67,7 @@ impl Slot {
         }
     }
 
-    /// The list. Our own.
+    /// The list.
     pub fn into_list(self) -> List
         ensures { result ≡ self.list }
     {
@@ -77,7 +78,7 @@ impl Slot {
         }
     }
 
-    /// The pool's journal. Our own.
+    /// The pool's journal.
     pub fn into_pool(self) -> Log<PoolEntry>
         ensures { result ≡ self.pool }
     {

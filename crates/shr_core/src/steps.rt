@@ -1,3 +1,4 @@
+// SPDX-License-Identifier: GPL-2.0-only
 //! Each kind of atomic operation once. The call that makes it says what it tells.
 ghost use Rattle.std.specs.Prelude.{ℕ, ◌+◌, ◌-◌, ◌%◌, ◌^◌, ◌<◌, bit_or, bit_and, ◌==◌};
 ghost use prog.Atomic.{either};
@@ -12,7 +13,6 @@ use shr_seats::telling::{Tells, Told};
 
 impl Core {
     /// One load of a word. `T` says what it tells of the number found and of the view after it.
-    /// Our own.
     pub(crate) fn load_as<T: Tells<Slot, View>>(
         &self,
         token: &mut Token<Slot, View>,
@@ -25,7 +25,7 @@ impl Core {
         self.table.shared.load::<Told<T>>(token, word)
     }
 
-    /// Sets the bits of `mask` in a word, which tells what `T` says. Our own.
+    /// Sets the bits of `mask` in a word, which tells what `T` says.
     pub(crate) fn or_as<T: Tells<Slot, View>>(
         &self,
         token: &mut Token<Slot, View>,
@@ -39,7 +39,7 @@ impl Core {
         self.table.shared.fetch_or::<Told<T>>(token, word, mask);
     }
 
-    /// Clears the bits of a word that `mask` lacks, which tells what `T` says. Our own.
+    /// Clears the bits of a word that `mask` lacks, which tells what `T` says.
     pub(crate) fn and_as<T: Tells<Slot, View>>(
         &self,
         token: &mut Token<Slot, View>,
@@ -53,7 +53,7 @@ impl Core {
         self.table.shared.fetch_and::<Told<T>>(token, word, mask);
     }
 
-    /// Stores a number in a word, which tells what `T` says. Our own.
+    /// Stores a number in a word, which tells what `T` says.
     pub(crate) fn store_as<T: Tells<Slot, View>>(
         &self,
         token: &mut Token<Slot, View>,
@@ -68,7 +68,7 @@ impl Core {
         self.table.shared.store::<Told<T>>(token, word, new);
     }
 
-    /// Stores 0 in a lock word, which tells what `T` says. Our own.
+    /// Stores 0 in a lock word, which tells what `T` says.
     pub(crate) fn free_as<T: Tells<Slot, View>>(
         &self,
         token: &mut Token<Slot, View>,
@@ -81,7 +81,7 @@ impl Core {
         self.table.shared.store::<Told<T>>(token, word, 0);
     }
 
-    /// Adds to a word modulo 2^64, and gives what it was. `T` says what that tells. Our own.
+    /// Adds to a word modulo 2^64, and gives what it was. `T` says what that tells.
     pub(crate) fn add_as<T: Tells<Slot, View>>(
         &self,
         token: &mut Token<Slot, View>,
@@ -96,7 +96,7 @@ impl Core {
         self.table.shared.fetch_add::<Told<T>>(token, word, more)
     }
 
-    /// Subtracts from a word modulo 2^64, and gives what it was. `T` says what that tells. Our own.
+    /// Subtracts from a word modulo 2^64, and gives what it was. `T` says what that tells.
     pub(crate) fn sub_as<T: Tells<Slot, View>>(
         &self,
         token: &mut Token<Slot, View>,
@@ -110,7 +110,7 @@ impl Core {
     }
 
     /// One compare and exchange of a lock word from 0 to 1, which gives what it was. `T` says what
-    /// that tells. Our own.
+    /// that tells.
     pub(crate) fn exchange_as<T: Tells<Slot, View>>(
         &self,
         token: &mut Token<Slot, View>,
@@ -126,8 +126,7 @@ impl Core {
             .compare_exchange::<Told<T>>(token, word, 0, 1)
     }
 
-    /// One compare and exchange of a word, which gives what it was. `T` says what that tells. Our
-    /// own.
+    /// One compare and exchange of a word, which gives what it was. `T` says what that tells.
     pub(crate) fn swap_as<T: Tells<Slot, View>>(
         &self,
         token: &mut Token<Slot, View>,

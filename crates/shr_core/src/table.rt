@@ -1,3 +1,4 @@
+// SPDX-License-Identifier: GPL-2.0-only
 //! The table, and the rule that it is under.
 ghost use Rattle.std.specs.Prelude.{◌≡◌, ◌<◌, ◌≤◌, length};
 ghost use Rattle.shr_model.specs.Trees.{IsTree};
@@ -11,7 +12,7 @@ use crate::view::View;
 use atomic_table::{Table, TableRule};
 use std::alloc::Global;
 
-/// The rule of the core table. Our own.
+/// The rule of the core table.
 pub struct Law;
 
 impl TableRule<Slot, View, Setting> for Law {

@@ -1,3 +1,4 @@
+// SPDX-License-Identifier: GPL-2.0-only
 //! What a seat knows.
 ghost use Rattle.std.specs.Borrow.{ftrue};
 ghost use Rattle.std.specs.Prelude.{ℕ, List};
@@ -9,7 +10,7 @@ use std::marker::Model;
 
 /// What a seat has in hand, has made and seen, owes, holds and owns; its number among the seats; and
 /// all that it did, in order, with what the seats that were joined into it did. No value of it is
-/// made at run time. Our own.
+/// made at run time.
 pub struct View {
     pub ghost holding: { Holding },
     pub ghost traces: { Traces },

@@ -1,3 +1,4 @@
+// SPDX-License-Identifier: GPL-2.0-only
 //! Where each word lies, and what one of a thing is in it.
 ghost use Rattle.std.specs.Prelude.{◌≡◌, ◌==◌, ◌+◌, ◌*◌, ◌%◌, ◌<◌, ◌^◌};
 ghost use Rattle.shr_core.specs.Layout.{place_bit};
@@ -31,7 +32,7 @@ pub(crate) const ONE_PHASE: u64 = 1 << 40;
 /// The step from one declaration to the next in a lookup word.
 pub(crate) const ONE_DECL: u64 = 1 << 56;
 
-/// The count word of a row. Our own.
+/// The count word of a row.
 pub(crate) fn count_word(row: usize) -> usize
     requires { row < 2 ^ 60 }
     ensures { result ≡ 8 * row }
@@ -39,7 +40,7 @@ pub(crate) fn count_word(row: usize) -> usize
     KINDS * row
 }
 
-/// The lock word of a row. Our own.
+/// The lock word of a row.
 pub(crate) fn lock_word(row: usize) -> usize
     requires { row < 2 ^ 60 }
     ensures { result ≡ 8 * row + 1 }
@@ -47,7 +48,7 @@ pub(crate) fn lock_word(row: usize) -> usize
     KINDS * row + 1
 }
 
-/// The bit word of a row. Our own.
+/// The bit word of a row.
 pub(crate) fn bit_word(row: usize) -> usize
     requires { row < 2 ^ 60 }
     ensures { result ≡ 8 * row + 2 }
@@ -55,21 +56,21 @@ pub(crate) fn bit_word(row: usize) -> usize
     KINDS * row + 2
 }
 
-/// The lookup word of an id. Our own.
+/// The lookup word of an id.
 pub(crate) fn lookup_word(id: u16) -> usize
     ensures { result ≡ 8 * id + 3 }
 {
     KINDS * id as usize + 3
 }
 
-/// Whether a word is a lookup word. Our own.
+/// Whether a word is a lookup word.
 pub(crate) fn is_lookup(word: usize) -> bool
     ensures { result ≡ (word % 8 == 3) }
 {
     word % KINDS == 3
 }
 
-/// Which bit of its bit word a place has. Our own.
+/// Which bit of its bit word a place has.
 pub(crate) fn own_bit(place: usize) -> usize
     ensures { result ≡ place_bit place }
 {

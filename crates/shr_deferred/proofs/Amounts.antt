@@ -1,3 +1,4 @@
+-- SPDX-License-Identifier: GPL-2.0-only
 -- What the words are once all other seats were joined.
 use Rattle.shr_deferred.proofs.Common.{◌≡◌, ℕ, ◌+◌, ◌%◌, ◌^◌, ◌<◌, ◌≢◌, true, false, cond, List, [], ◌∷◌, ◌++◌, get_or, sym, refl, ap, ◌∙◌, arith, eq-eqb, ne_eqb, append-nil, some, get_elem?, Final, Seen, Place, PlaceAmount, amount_of, View, Sizes, row_of, row_count, place_of_row, Deed, acts_of, part, lined_sole, Move, IsDeferredSound, AreTaken, Amounts, deeds_in, standing_in, spent_view, strands_in, amounts_after, nothing_deferred, left_at, HasHistory, not, filter, IsWhole, range_same}
 use Rattle.std.proofs.lemmas.List.FromFn.{filter_of_map_range_with_len_more}

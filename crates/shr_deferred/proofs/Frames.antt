@@ -1,3 +1,4 @@
+-- SPDX-License-Identifier: GPL-2.0-only
 -- The rule after a step of one seat, part by part.
 use Rattle.shr_deferred.proofs.Common.{◌≡◌, ℕ, true, false, List, [], ◌∷◌, ◌++◌, map, set, get_or, sym, refl, subst, ◌∙◌, map-set, some, get_elem?, State, at_map, AreSeats, Deed, Each-set, not_gone, View, Sizes, Move, IsDeferredSound, TakesAll, amounts_next, amounts_after, nothing_deferred, deeds_in, standing_in, spent_view, length-set, Option, set_again, lined_do, AreSo-push}
 use Rattle.shr_deferred.proofs.Words.{AreLeft}

@@ -1,3 +1,4 @@
+-- SPDX-License-Identifier: GPL-2.0-only
 -- Words, places and moves of the table at known values.
 use Rattle.shr_deferred.proofs.Common.{arith, ◌≡◌, ℕ, ◌^◌, List, [], ◌∷◌, refl, Place, Sizes, IsPlaceOf, row_of, place_of_row, row_count, left_at, amount_of, Deed, part, Move, Moves, took, gave, both, take_of, give_of, AreTaken, amounts_after, ◌-◌}
 

@@ -1,3 +1,4 @@
+-- SPDX-License-Identifier: GPL-2.0-only
 -- A line in which the seats of the strands have the strands' numbers.
 use Rattle.shr_deferred.proofs.Common.{◌≡◌, ◌≢◌, ◌⊎◌, ℕ, zero, suc, ◌<◌, cond, List, [], ◌∷◌, map, length, sym, refl, ap, subst, ◌∙◌, arith, eq-eqb, ne_eqb, dite, ℕ_discrete, dec_lt, some, some-injective, some-ne-none, get_elem?, Deed, by_seat, part, state_after, AreSo, View, Move, Moves, AreStrands, Amounts, TakesAll, amounts_next, strands_in, strand_at, inl, inr}
 use Rattle.shr_deferred.proofs.Strands.{at_past}

@@ -1,3 +1,4 @@
+-- SPDX-License-Identifier: GPL-2.0-only
 -- What calls gain on a seat, none and one after the other.
 use Rattle.shr_deferred.proofs.Common.{◌≡◌, ℕ, List, [], ◌∷◌, ◌++◌, sym, refl, ap, ◌∙◌, append-nil, map-append, Me, View, Deed, by_seat, acts_of, acts_by, Move, Moves, took, gave, takes_of, gives_of, both, append_assoc, no_moves}
 use Rattle.shr_deferred.proofs.Steps.{with_moves}

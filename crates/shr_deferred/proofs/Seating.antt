@@ -1,3 +1,4 @@
+-- SPDX-License-Identifier: GPL-2.0-only
 -- Splitting the first seat and joining another into it keep the rule.
 use Rattle.shr_deferred.proofs.Common.{◌≡◌, ℕ, zero, suc, length, ◌<◌, true, false, List, [], ◌∷◌, ◌++◌, map, set, get_or, sym, refl, ap, subst, ◌∙◌, map-set, map-append, some, get_elem?, at_map, set_else, AreSeats, Each-set, replicate, not_gone, View, Sizes, row_of, row_count, IsDeferredSound, deeds_in, standing_in, first_view, new_view, spent_view, with_split_view, joined_view, Splits, Joins, opening, at_first, at_split, at_end, Each-push, length-replicate, AreSeats-first, AreSeats-split, AreSeats-join, lined_first, lined_split, lined_join}
 use Rattle.std.proofs.Math.Nat.{mul-pos}

@@ -1,3 +1,4 @@
+-- SPDX-License-Identifier: GPL-2.0-only
 -- Taking and giving keep the rule.
 use Rattle.shr_deferred.proofs.Common.{◌≡◌, ℕ, false, ◌+◌, ◌^◌, ◌%◌, ◌<◌, ◌++◌, set, get_or, sym, refl, subst, ◌∙◌, Me, Allows, Place, amount_of, View, Sizes, IsPlaceOf, row_of, row_count, by_seat, acts_of, lined_sole, Moves, took, gave, take_of, give_of, IsDeferredSound, deeds_in, standing_in, spent_view, IsAlone, left_at, get_or-set_same, get_or-set_other, keeps}
 use Rattle.shr_deferred.proofs.Frames.{on_move}

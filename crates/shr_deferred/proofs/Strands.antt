@@ -1,3 +1,4 @@
+-- SPDX-License-Identifier: GPL-2.0-only
 -- What each seat did itself, while seats do more, are split and are joined.
 use Rattle.shr_deferred.proofs.Common.{◌≡◌, ◌≢◌, ℕ, zero, suc, ◌+◌, ◌<◌, ⊎_elim, Bool, true, false, cond, List, [], ◌∷◌, ◌++◌, map, length, set, sym, refl, ap, subst, ◌∙◌, arith, eqb, eq-eqb, ne_eqb, append-nil, map-append, dite, dec_lt, some, some-injective, some-ne-none, get_elem?, State, at_map, set_else, Deed, by_seat, acts_of, part, acts_by, not_gone, Sizes, View, Move, Moves, IsDeferredSound, AreStrands, strands_in, strand_at, deeds_in, standing_in, first_view, new_view, spent_view, with_split_view, joined_view, length-append, at_set, at_snoc, at_longer, part-append, part_own, part_other, did_at_some, set_there, others, IsSeatGone, IsOwnView, AreOwnViews}
 

@@ -1,3 +1,4 @@
+-- SPDX-License-Identifier: GPL-2.0-only
 -- The words and the line of all moves, on plain data.
 use Rattle.shr_deferred.proofs.Common.{◌≡◌, ℕ, ◌+◌, ◌^◌, ◌%◌, ◌<◌, ◌≢◌, true, false, cond, eqb, List, [], ◌∷◌, ◌++◌, sym, refl, ap, ◌∙◌, ⊎_elim, arith, eq-eqb, Place, amount_of, Sizes, IsPlaceOf, row_of, Deed, acts_of, part, state_after, AreSo, Move, Moves, took, gave, takes_of, gives_of, Amounts, amounts_next, TakesAll, nothing_deferred, amounts_after, AreTaken, left_at, ◌&&◌, amount_at, state_after_push, total_parts, after_move, took_at, gave_at}
 use Rattle.std.proofs.lemmas.Bool.{cases_Bool}

@@ -1,3 +1,4 @@
+-- SPDX-License-Identifier: GPL-2.0-only
 -- A seat that has the table to itself.
 use Rattle.std.specs.Prelude.{◌≡◌, ℕ, true}
 use Rattle.shr_base.specs.declared.places.Place.{Place}

@@ -1,3 +1,4 @@
+-- SPDX-License-Identifier: GPL-2.0-only
 -- What is left in the deferred words at the end.
 use Rattle.std.specs.Prelude.{ℕ, Bool, not, ◌==◌, List, map, filter}
 use Rattle.std.specs.List.{range_with_len}

@@ -1,3 +1,4 @@
+// SPDX-License-Identifier: GPL-2.0-only
 //! The table at the end.
 
 ghost use Rattle.std.specs.Prelude.{◌≡◌, ◌<◌, ◌%◌, ◌^◌, IfOk, slice_index};
@@ -48,7 +49,7 @@ impl Deferred {
     /// The amounts that are still deferred, none of them 0, by id, node and group.
     ///
     /// By then all other seats were joined into the first one, so each amount is what that seat's
-    /// view gave at the place less what it took. On `Memory` the table is gone too. Our own.
+    /// view gave at the place less what it took. On `Memory` the table is gone too.
     pub fn finish(self, alloc: Global, first: FirstDeferredSeat) -> Result<Log<PlaceAmount>, Memory>
         requires first { IsFirstDeferredOf self first }
         requires whole { IsWhole (first_deferred first).standing }

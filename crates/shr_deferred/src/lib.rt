@@ -1,3 +1,4 @@
+// SPDX-License-Identifier: GPL-2.0-only
 //! The deferred words: for each place, how much of the work of earlier passes is still to be done
 //! there.
 //!

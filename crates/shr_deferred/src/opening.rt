@@ -1,3 +1,4 @@
+// SPDX-License-Identifier: GPL-2.0-only
 //! The table at the start.
 
 ghost use Rattle.std.specs.Prelude.{◌≡◌, ◌<◌, replicate, IfOk};

@@ -1,3 +1,4 @@
+// SPDX-License-Identifier: GPL-2.0-only
 //! Sitting down at the table, leaving it, and seats for further threads.
 
 ghost use Rattle.std.specs.Prelude.{◌≡◌, true, IfOk, IsOk};
@@ -9,7 +10,7 @@ use crate::table::{Deferred, DeferredSeat, FirstDeferredSeat};
 use shr_base::memory::Memory;
 
 impl FirstDeferredSeat {
-    /// The seat at its table. Our own.
+    /// The seat at its table.
     pub fn at<'a>(self, deferred: &'a Deferred) -> DeferredSeat<'a>
         requires { IsFirstDeferredOf deferred.now self }
         ensures { result ≡ first_seated deferred.now self }
@@ -23,7 +24,7 @@ impl FirstDeferredSeat {
 
 impl<'a> DeferredSeat<'a> {
     /// A further seat, which has moved nothing. Only the first seat is split. It takes no memory
-    /// today. Our own.
+    /// today.
     pub fn split(&mut self) -> Result<DeferredSeat<'a>, Memory>
         requires first { (deferred_standing self.old).first ≡ true }
         ensures made { IsOk result }
@@ -37,7 +38,7 @@ impl<'a> DeferredSeat<'a> {
         })
     }
 
-    /// Joins another seat into the first one, which takes over what it took and gave. Our own.
+    /// Joins another seat into the first one, which takes over what it took and gave.
     pub fn join(&mut self, other: DeferredSeat<'a>)
         requires first { (deferred_standing self.old).first ≡ true }
         requires table { other.deferred ≡ self.old.deferred }
@@ -50,7 +51,7 @@ impl<'a> DeferredSeat<'a> {
         shared.join_seat::<Seating>(&mut self.token, other.token);
     }
 
-    /// Leaves the table with its first seat. Our own.
+    /// Leaves the table with its first seat.
     pub fn leave(self) -> FirstDeferredSeat
         requires first { (deferred_standing self).first ≡ true }
         ensures first { IsFirstDeferredOf self.entry.deferred result }

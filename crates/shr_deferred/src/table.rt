@@ -1,3 +1,4 @@
+// SPDX-License-Identifier: GPL-2.0-only
 //! The table, and the seats at it.
 
 ghost use Rattle.std.specs.Prelude.{◌≡◌, ◌<◌};
@@ -25,7 +26,7 @@ pub struct Deferred {
     ghost some: { (0 < sizes.ids) × (0 < sizes.nodes) × (0 < sizes.groups) },
 }
 
-/// A thread's seat at the table, and the table that it is at. Our own.
+/// A thread's seat at the table, and the table that it is at.
 #[derive(Drop)]
 pub struct DeferredSeat<'a> {
     pub(crate) deferred: &'a Deferred,
@@ -42,8 +43,7 @@ impl<'a> Model for DeferredSeat<'a> {
     ghost invariant = { λ s. IsDeferredSeat s.deferred.now s.token };
 }
 
-/// The first seat while no thread sits at the table: before the first does, and after the last. Our
-/// own.
+/// The first seat while no thread sits at the table: before the first does, and after the last.
 #[derive(Drop)]
 pub struct FirstDeferredSeat {
     pub(crate) token: Token,

@@ -1,3 +1,4 @@
+// SPDX-License-Identifier: GPL-2.0-only
 //! What a seat of the deferred table knows.
 
 ghost use Rattle.std.specs.Borrow.{ftrue};
@@ -9,7 +10,7 @@ ghost use Rattle.shr_seats.specs.Standing.{Standing};
 use std::marker::Model;
 
 /// What a seat took and gave, with what the seats that were joined into it did, each by itself too in
-/// the order of the joins, and its place among the seats. No value of it is made. Our own.
+/// the order of the joins, and its place among the seats. No value of it is made.
 pub struct View {
     pub ghost did: { List (Deed Move) },
     pub ghost own: { Moves },

@@ -1,3 +1,4 @@
+-- SPDX-License-Identifier: GPL-2.0-only
 -- An isolation's scans are lawful.
 use Rattle.shr_drop.proofs.Common.{◌≡◌, ℕ, ◌+◌, ◌<◌, Bool, true, false, List, [], ◌∷◌, ◌++◌, length, sym, refl, ap, subst, ◌∙◌, ◌⊎◌, ⊎_elim, arith, sum, Object, Policy, Serial, Spent, place_number, scan_of, View, shape_of, with_put, WorkerState, Shared, common_steps, Isolation, Isolates, found_place, visitor_of, Visitor, ScansOnce, AreVisits, AreIsolated, MeetsWorn, ◌-◌, map, append_assoc, replicate, RefusedBy}
 use Rattle.std.specs.List.{AllByRecursion}

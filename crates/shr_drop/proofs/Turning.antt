@@ -1,3 +1,4 @@
+-- SPDX-License-Identifier: GPL-2.0-only
 -- What a lister's scan is to the state of the worker's seats.
 use Rattle.shr_drop.proofs.Common.{◌≡◌, ℕ, ◌+◌, ◌<◌, ◌≤◌, Bool, true, false, List, [], ◌∷◌, ◌++◌, length, sym, refl, ap, subst, ◌∙◌, ⊎_elim, arith, ◌⊎◌, sum, Object, Policy, Place, Serial, Spent, scan_of, place_number, with_put, View, Keeps, Shared, WorkerState, state_of, Visitor, ScansOnce, AreVisits, AreIsolated, MeetsWorn, IsSameElse, zero, suc, inl, inr, length-append, ◌≢◌, Option, Some, None, Scanned, case_of, scan_from, view_of, IsRested, MeetsClosed}
 use Rattle.shr_base.specs.declared.objects.LruStatus.{LruStatus}

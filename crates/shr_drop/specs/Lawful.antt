@@ -1,3 +1,4 @@
+-- SPDX-License-Identifier: GPL-2.0-only
 -- An isolation by the law: the entries that it made, and what they say.
 use Rattle.std.specs.Prelude.{◌≡◌, ℕ, List, ◌++◌, map, Option, None, Some, slice_get}
 use Rattle.shr_base.specs.declared.journals.Entry.{Entry}

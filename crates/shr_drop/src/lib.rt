@@ -1,3 +1,4 @@
+// SPDX-License-Identifier: GPL-2.0-only
 //! Isolation: objects are taken off a cache's list one visit at a time, and between two visits the list's room is given
 //! back.
 //!

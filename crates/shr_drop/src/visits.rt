@@ -1,3 +1,4 @@
+// SPDX-License-Identifier: GPL-2.0-only
 //! The visits of one isolation.
 
 ghost use Rattle.std.specs.Prelude.{◌≡◌, ◌≤◌};
@@ -15,7 +16,7 @@ use shr_walk::lister::{Lister, ListerScan};
 use shr_walk::seats::Seats;
 use std::sync::Wait;
 
-/// What the visits of an isolation came to: how many there were, what they freed, and why no other was made. Our own.
+/// What the visits of an isolation came to: how many there were, what they freed, and why no other was made.
 #[derive(Clone, Copy, Debug, PartialEq, Eq)]
 pub struct Visited {
     pub visits: u32,
@@ -24,7 +25,7 @@ pub struct Visited {
 }
 
 /// Visits the list up to `budget` times, each time from its head. The room of the list is taken for each visit and given
-/// back after it. Our own.
+/// back after it.
 pub(crate) fn visit_all<R: Wait>(lister: &Lister<R>, seats: &mut Seats<'_>, budget: u32) -> Visited
     requires shared { IsShared (listing_of lister.now).shared }
     requires place { let a = listing_of lister.now in IsPlaceOfShape (shape_of a.shared.core)

@@ -1,3 +1,4 @@
+-- SPDX-License-Identifier: GPL-2.0-only
 -- Lists that are made element by element.
 use Rattle.shr_gen.proofs.Common.{◌≡◌, ◌∙◌, ◌++◌, ◌∷◌, [], List, ℕ, zero, suc, ◌+◌, ◌*◌, ap, sym, arith, map, range_with_len, drawn_after, map-range_with_len_more, next_draw}
 

@@ -1,3 +1,4 @@
+-- SPDX-License-Identifier: GPL-2.0-only
 -- What the matches of `clap` give.
 use Rattle.shr_gen.proofs.FormsCommon.{◌≡◌, ◌∙◌, List, ℕ, [], ◌∷◌, length, Bool, true, false, ◌≤◌, ◌<◌, ◌^◌, Option, Some, None, sym, ap, subst, refl, zero, suc, codes, decimal, arith, option_map, get_or, AllByRecursion, same_Some, Row, Text, IsAmong, fault_of, first_of, rows_of, subcommand_of, has_hyphen, IsPlainWord, the_app, Form, Run, Audit, AreRunWords, AreAuditWords, AreGenWords, AreNoForm, ReadsAs, ◌||◌, cond, ne_eqb, list_any, first_decimal, decimal_digit, none-some, first_value}
 use Rattle.std.specs.Borrow.{Bor}

@@ -1,3 +1,4 @@
+-- SPDX-License-Identifier: GPL-2.0-only
 -- Words are of one form at most.
 use Rattle.shr_gen.proofs.FormsCommon.{◌≡◌, ◌∙◌, ℕ, ◌∷◌, [], List, codes, decimal, refl, sym, Option, Some, None, decimal_injective, Form, Run, Audit, AreRunWords, AreAuditWords, AreGenWords, ReadsAs, Gen}
 use Rattle.shr_gen.proofs.Reading.{same_words, sizes_fit}

@@ -1,3 +1,4 @@
+-- SPDX-License-Identifier: GPL-2.0-only
 -- What `clap` makes of words that begin with no hyphen: the one word `run` or `audit`, or `gen` with three more, and of no others.
 use Rattle.shr_gen.proofs.FormsCommon.{◌≡◌, ℕ, Bool, true, false, List, [], ◌∷◌, refl, sym, ap, ap₂, ◌∙◌, subst, codes, Option, Some, None, AllByRecursion, bytes_eq-Decides, Row, Text, fault_of, is_simple, is_simple_and_free, first_of, subcommand_of, IsPlainWord, the_app, inl, inr, ◌++◌, append_assoc, if◌then◌else◌, fold, bytes_eq, option_and_then, find, unwrap_or, Rule, Shape, Kinds, built, run_app, gen_app, audit_app}
 use Rattle.std.specs.Option.{option_map_or}

@@ -1,3 +1,4 @@
+-- SPDX-License-Identifier: GPL-2.0-only
 -- The paths, keys and values of a generated script are of their classes.
 use Rattle.shr_gen.proofs.Common.{◌≡◌, ℕ, zero, suc, ◌+◌, ◌<◌, ◌≤◌, ◌%◌, Bool, true, false, [], ◌∷◌, length, map, refl, sym, ap, ◌∙◌, arith, codes, Some, None, range_with_len, nat_tests, root_path, worker_path, key_text, value_text, ◌≢◌, ◌^◌, ◌&&◌, not, decimal, ⊎_elim, bytes_eq, list_all}
 use Rattle.std.specs.Fmt.{digits}

@@ -1,3 +1,4 @@
+-- SPDX-License-Identifier: GPL-2.0-only
 -- A generated script is valid: each of its lines may stand where it stands.
 use Rattle.shr_gen.proofs.Common.{◌≡◌, ℕ, zero, suc, ◌+◌, ◌*◌, ◌<◌, ◌≤◌, ◌%◌, Bool, true, false, List, [], ◌∷◌, ◌++◌, length, map, refl, sym, ap, ◌∙◌, arith, codes, Some, None, range_with_len, nat_tests, map-range_with_len_more, root_path, worker_path, key_text, value_text, group_at, generated_command, commands_from, drawn_after, chosen_by, ◌-◌, cond, get_or, subst, nat_le, nat_lt, Ok, flat_map, ◌==◌, length-map-range_with_len, get_or-map-range_with_len, MayBeGenerated, generated, worker_group, node_by, cache_by, priority_by, target_by, is_offline, three_caches}
 use Rattle.std.proofs.lemmas.List.{map_push}

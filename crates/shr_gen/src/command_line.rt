@@ -1,4 +1,5 @@
-//! The command that `clap` reads the words by. Our own.
+// SPDX-License-Identifier: GPL-2.0-only
+//! The command that `clap` reads the words by.
 
 ghost use Rattle.std.specs.Prelude.{◌≡◌, false, IfOk};
 ghost use Rattle.clap.specs.Words.{app_of};
@@ -23,7 +24,7 @@ fn gen_command<'a>(alloc: Global) -> Result<Command<'a>, AllocError>
 }
 
 /// The program's command: three subcommands, of which one is wanted, without help and without a word
-/// for the program's name. Our own.
+/// for the program's name.
 pub fn command<'a>(alloc: Global) -> Result<Command<'a>, AllocError>
     ensures { IfOk result (λ c. app_of c ≡ the_app) }
 {

@@ -1,4 +1,5 @@
-//! The forms of the command line. Our own.
+// SPDX-License-Identifier: GPL-2.0-only
+//! The forms of the command line.
 
 ghost use Rattle.std.specs.Prelude.{◌≡◌, ◌↔◌, ℕ, List, ◌∷◌, [], Some, codes, map, string_bytes, IsTrue};
 ghost use Rattle.std.specs.List.{list_any};
@@ -14,7 +15,7 @@ use clap::error::ErrorKind;
 use itoa::Buffer;
 use std::alloc::Global;
 
-/// What the words ask for. Our own.
+/// What the words ask for.
 #[derive(Clone, Copy, Debug, PartialEq, Eq)]
 pub enum Form {
     /// To run the script that is read.
@@ -155,7 +156,7 @@ fn plain_form(words: &[String]) -> Option<Form>
 /// The form that the words after the program's name are of, if they are of one. Words of which one
 /// begins with a hyphen are of none.
 ///
-/// `clap` splits the words. Where it has no memory for that, they are read word by word. Our own.
+/// `clap` splits the words. Where it has no memory for that, they are read word by word.
 pub fn form_of(alloc: Global, words: &[String]) -> Option<Form>
     ensures { ReadsAs (map string_bytes words.now) result }
 {

@@ -1,4 +1,5 @@
-//! Making a script by a number. Our own.
+// SPDX-License-Identifier: GPL-2.0-only
+//! Making a script by a number.
 
 ghost use Rattle.std.specs.Prelude.{◌≡◌, true, ◌*◌, ◌+◌, ◌<◌, ◌≤◌, ◌++◌, map, decimal, IfOk};
 ghost use Rattle.std.specs.List.{range_with_len};
@@ -177,7 +178,7 @@ fn workers_of(
 
 /// The script of a seed: two nodes, four ids, three caches, and a group for each of the workers,
 /// who have so many commands each. It is the same for the same three numbers, and valid. `Memory`
-/// comes for want of memory. Our own.
+/// comes for want of memory.
 pub fn generate(alloc: Global, seed: u64, workers: u16, commands: u32) -> Result<Script, Memory>
     requires { MayBeGenerated workers commands }
     ensures script { IfOk result (λ s. content_of s ≡ generated seed workers commands) }

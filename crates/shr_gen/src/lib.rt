@@ -1,6 +1,5 @@
-//! Scripts that are made by a number, for trying the program at length.
-//!
-//! The words of the command line: which are a form of the program, and what they ask for.
+// SPDX-License-Identifier: GPL-2.0-only
+//! Scripts made from a number, to try the program at length, and the words of the command line.
 #![tactic(auto)]
 
 mod command_line;

@@ -1,3 +1,4 @@
+-- SPDX-License-Identifier: GPL-2.0-only
 -- The causes of answers that speak of what their worker knew.
 use Rattle.shr_lawful.proofs.Common.{◌≡◌, ℕ, zero, suc, ◌+◌, ◌≤◌, inl, inr, Bool, true, false, cond, List, [], ◌∷◌, length, take, drop, refl, sym, ap, subst, ◌∙◌, arith, take_all, length-take-le, slice_get, Some, filter, count_by, nat_lt, pos, slice_get_within, Registered, Done, UseStep, Script, ups, is_by, ops_by, IsChargeHistory, is_live_decl, lowest_idle, undone_child, Has, Has_filter, filter_has, Report, uses_at, IsOver, IsUncached, IsCached, IsFull, IsInTheWay, StandsInTree, Step, steps_of, ops_at, IsOverBy, IsDoneKnown, IsRun, done_at, count_total, some_at, IsUncachedBy, IsCachedBy, IsFullBy, IsInTheWayBy, IsRegisteredBy, script_hierarchy, no_test}
 use Rattle.std.proofs.Common.{lt-ltb}

@@ -1,3 +1,4 @@
+-- SPDX-License-Identifier: GPL-2.0-only
 -- The law of the bag, of a run.
 use Rattle.shr_lawful.proofs.Common.{◌≡◌, ℕ, suc, ◌<◌, inl, inr, ⊎_elim, true, List, [], ◌∷◌, length, map, refl, ap, slice_get, Some, AllByRecursion, Add, PlaceEnd, Script, added_in, listed_in, IsWhole, bag_of_legal, AreApart_of_ends, find_end, Report, parents_of, journal_of, journals_of, places_of, cited_at, Step, IsRun, added_distinct, IsBagLawful, freed_in, IsBag}
 use Rattle.shr_lawful.proofs.RepliesLaw.{cited}

@@ -1,3 +1,4 @@
+-- SPDX-License-Identifier: GPL-2.0-only
 -- A worker's map has each bit that an earlier command of it set where it filled a list, unless it was cleared since, of a run.
 use Rattle.shr_lawful.proofs.Common.{◌≡◌, ◌≢◌, ◌⊎◌, inl, inr, ⊎_elim, ℕ, zero, suc, ◌+◌, ◌<◌, Bool, true, false, cond, List, [], ◌∷◌, ◌++◌, sym, refl, ap, subst, ◌∙◌, arith, append_assoc, eq-eqb, ne_eqb, slice_get, Some, ◌==◌, append-nil, map-append, same_Some, none-some, dite, ℕ_discrete, Script, Has, map_has, Deed, by_seat, part, AreSo, among, Moment, moment_next, IsSo, Event, Mapped, raised, cleared, mapped, WorkerState, Report, IsSetLast, IsRun, Step, IsAmong, steps_of, AreStepsChained, BringsWork, cleared_in, maps_in, at_start}
 use Rattle.shr_lawful.proofs.LineParts.{part_has}

@@ -1,3 +1,4 @@
+-- SPDX-License-Identifier: GPL-2.0-only
 -- The bits that are told are of ids that are there, have a reason, and aren't lost, of a run.
 use Rattle.shr_lawful.proofs.Common.{◌≡◌, ◌≢◌, ◌⊎◌, inl, inr, ⊎_elim, ℕ, suc, ◌+◌, ◌*◌, ◌<◌, Bool, true, false, not, ◌||◌, List, [], ◌∷◌, ◌++◌, length, take, map, sym, refl, ap, subst, ◌∙◌, arith, eq-eqb, ne_eqb, slice_get, Option, Some, None, filter, flat_map, ◌==◌, nat_lt, bit_at, AllByRecursion, range_with_len, IsSomeAnd, cases_Bool, dite, ℕ_discrete, MapEnd, Entry, Add, MovedIn, Object, Place, Serial, Script, Attempt, MapSeen, Outcome, WalkRecord, is_held, counts_of, is_set, lists_moved_at, IsOutcome, first_moved, step, place_number, is_place, unit_of, bit_of, place_in, clearings_of, each_weaker, Has, Has_map, map_has, Has_flat_map, flat_map_has, Has_filter, filter_has, each_has, Contains_from_Has, is_place_itself, times, only, some_term, only_no, place_at, map_number, map_of, Made, Report, IsLawfulWalk, IsCountRight, IsOutcomeOf, cache_of, parents_of, serial_of, journals_of, items_before, all_walks, walk_at, IsThere, FillsPlace, Covers, Fills, IsListFilled, IsMarked, all_sets, IsRun, Step, IsAmong, gathered, steps_of, is_setting, set_by_walk, at_some, some_at, ids_seen, set_bits_of, ids_in, is_since, was_cleared_since, is_set_again, set_again_in, WasFilled, HasReason, bit_place, AreBitsTold, items_from_push}
 use Rattle.std.proofs.Common.{lt-ltb}

@@ -1,3 +1,4 @@
+-- SPDX-License-Identifier: GPL-2.0-only
 -- The law of causes, of a run.
 use Rattle.shr_lawful.proofs.Common.{◌≡◌, ℕ, ⊎_elim, List, sym, refl, subst, ap, ◌∙◌, slice_get, Some, option_and_then, Option, IsSomeAnd, Serial, Registered, Begin, Done, Answered, HalfWhy, Reply, Spent, Command, Release, Grab, Script, group_named, decl_named, Report, serial_of, command_at, answer_at, IsSpent, IsUnmade, IsOver, IsUncached, IsCached, IsFull, IsFreed, IsInTheWay, IsOfflineDone, StandsInTree, group_met, HasCause, Step, steps_of, IsWhyBy, IsUsedUpBy, IsCausedBy, Drains, IsRun, begin_at, made_at, IsHalf, IsWhy, IsUsedUp, IsPoolWorn, plain_worn}
 use Rattle.shr_base.specs.declared.journals.TreeEntry.TheVariants.{Made}

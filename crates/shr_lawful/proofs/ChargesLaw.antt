@@ -1,3 +1,4 @@
+-- SPDX-License-Identifier: GPL-2.0-only
 -- The law of charges, of a run.
 use Rattle.shr_lawful.proofs.Common.{◌≡◌, ℕ, zero, suc, ◌+◌, ◌<◌, ◌≤◌, ◌⊎◌, inl, inr, ⊎_elim, Bool, true, false, cond, List, [], ◌∷◌, length, drop, map, sym, refl, ap, subst, ◌∙◌, arith, eqb, eq-eqb, slice_get, Some, None, Option, find, filter, sum_by, pos, ◌-ℤ◌, MatchOption, AllByRecursion, enumerate_from, IsSomeAnd, and_parts, and_from, eqb-true, cases_Bool, same_Some, none-some, slice_get_past, UseStep, Entry, Add, Drop, Scan, Drained, Object, Place, Serial, Command, Put, On, Get, Del, SetPin, Script, ups, usage_after, is_by, ops_by, IsDownNext, AreTakenBack, is_serial, is_put, items_at, is_at_or_above, born_below, freed_by, by_of, Has, filter_has, total, place_at, Made, Report, parents_of, limit_of, journals_of, places_of, serial_of, command_at, commands_of, reply_at, uses_at, entry_by, at, id_found, IsDownBetween, charged, Step, IsAmong, steps_of, IsPut, ops_at, IsTenantEntry, IsDrainedByCommand, MayMakeEntry, all_made, IsRun, all_zero, at_some, by_slices, count_total, some_at, sum_total, freeings_at, ways_of, is_of, freed_in_command, freed_below, no_test}
 use Rattle.shr_model.proofs.Weights.{serial_itself}

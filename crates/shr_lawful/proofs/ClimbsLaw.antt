@@ -1,3 +1,4 @@
+-- SPDX-License-Identifier: GPL-2.0-only
 -- The lists on which a worker acts for one group go up only, of a run.
 use Rattle.shr_lawful.proofs.Common.{◌≡◌, ℕ, ◌<◌, ◌≤◌, ⊎_elim, List, length, sym, ap, subst, ◌∙◌, arith, slice_get, Some, option_and_then, cases_lt, same_Some, Place, Script, group_named, path_of, IsAtOrAbove, place_number, at_group, on_le, IsAtOrAbove-le, IsAtOrAbove-refl, Has_from_Contains, Contains_from_Has, Begins, Known, place_at, back, Report, parents_of, cited_by, journals_of, at, IsMadeAsCited, Step, IsAmong, steps_of, IsRun, on_chain}
 use Rattle.shr_laws.specs.Climbs.{ActsOn, AreClimbing}

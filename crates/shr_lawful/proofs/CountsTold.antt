@@ -1,3 +1,4 @@
+-- SPDX-License-Identifier: GPL-2.0-only
 -- The counts that a report tells of a worker are those of its steps, in the order in which it made them.
 use Rattle.shr_lawful.proofs.Common.{◌≡◌, ℕ, zero, suc, ◌+◌, ◌<◌, ◌≤◌, List, [], ◌∷◌, ◌++◌, length, length-append, map, take, sym, refl, ap, subst, ◌∙◌, arith, append_assoc, slice_get, Some, flat_map, flat_map-append, map-append, same_Some, none-some, some, some-ne-none, get_elem?, Serial, Script, Attempt, WalkRecord, Count, counts_of, place_number, place_in, Deed, by_seat, acts_of, part, Begins, among, seen_in, Event, Counted, counted, WorkerState, Report, serial_of, Counting, countings_of, IsRun, Step, steps_of, AreStepsChained, BringsWork, counted_in, some_at, countings_in, among-append}
 use Rattle.shr_core.proofs.Unregistering.{there as at_less}

@@ -1,3 +1,4 @@
+-- SPDX-License-Identifier: GPL-2.0-only
 -- A walk that memory cut short ended its command, of a run.
 use Rattle.shr_lawful.proofs.Common.{◌≡◌, false, List, ap, sym, subst, ◌∙◌, AllPairs, list_any, Answered, Script, WalkRecord, is_cut, Report, IsWant, Step, IsRun, AreCutsTold}
 use Rattle.shr_lawful.proofs.Gathering.{stepped}

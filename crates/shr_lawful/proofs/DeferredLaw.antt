@@ -1,3 +1,4 @@
+-- SPDX-License-Identifier: GPL-2.0-only
 -- The law of deferred words, of a run.
 use Rattle.shr_lawful.proofs.Common.{◌≡◌, ℕ, suc, ◌+◌, ◌<◌, ◌⊎◌, inl, inr, ⊎_elim, Bool, true, false, ◌&&◌, cond, List, [], ◌∷◌, ◌++◌, length, take, get_or, sym, refl, ap, subst, ◌∙◌, arith, slice_get, Option, Some, sum_by, flat_map, filter, filter_map, AllPairs, ◌==◌, AllByRecursion, dite, ℕ_discrete, IsSomeAnd, cases_lt, and_parts, eqb-true, same_Some, slice_get_within, get_or_from_slice_get, sum_by-append, sum_by-cons, flat_map-append, Place, PlaceAmount, Script, Attempt, Carry, PassRecord, WalkRecord, pass_of, sum_at, amount_at, deferred_word, is_below, given_at, taken_at, is_place, place_in, passes_at, is_place_same, IsTree, is_child, child_takes, child_higher, takes_of, gives_of, Serial, Reply, Report, parents_of, all_walks, all_carries, IsThere, serial_of, command_at, reply_at, HasCarried, IsBefore, Step, IsAmong, gathered, steps_of, Did, DidCarry, all_takes, all_gives, IsRun, by_slices, some_at, flat_zero, printed_at, IsCarryRight, IsDeferredLawful, carries_of, no_test}
 use Rattle.shr_lawful.proofs.Gathering.{each_step, has_step, flat_at, reply_is}

@@ -1,3 +1,4 @@
+-- SPDX-License-Identifier: GPL-2.0-only
 -- In a run a list is drained while its id is dying, and an id comes to be idle with empty lists.
 use Rattle.shr_lawful.proofs.Common.{◌≡◌, ℕ, zero, suc, ◌+◌, ◌%◌, ◌<◌, ◌≤◌, ⊎_elim, Bool, cond, take, List, [], ◌∷◌, ◌++◌, length, length-append, get_or, sym, refl, ap, subst, ◌∙◌, arith, eqb, eq-eqb, ne_eqb, slice_get, Some, same_Some, slice_get-get_or, dite, ℕ_discrete, dec_lt, some, some-injective, get_elem?, Entry, Drained, PoolEntry, Registered, Idle, Place, Script, HasJournal, place_number, HasJournal_none, Deed, Begins, begins_all, begins_more, place_id, Event, Made, Turn, made, turned, Moment, moment_next, IsTimely, IsSo, so_before, Report, journals_of, decls_on, IsThere, Told, entry, turn, HasAt, looked_by, IsInOneOrder, IsRun, Step, begins_push, before, before_next, moment_before, grown, state_after, at_start, moment_after, LeavesNothing, IsDrainedEntry, ComesBehind, IsWhileDying, IsWhileEmpty, take-append_seam}
 use Rattle.shr_model.specs.Pool.{phase_of}

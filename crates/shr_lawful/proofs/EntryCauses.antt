@@ -1,3 +1,4 @@
+-- SPDX-License-Identifier: GPL-2.0-only
 -- Each entry of the journals of registrations and of the tree, and each Drained, has its cause.
 use Rattle.shr_lawful.proofs.Common.{◌≡◌, ℕ, ◌+◌, ◌≤◌, true, false, List, length, refl, sym, ap, subst, ◌∙◌, arith, eq-eqb, slice_get, Option, Some, None, option_map, IsSomeAnd, eqb-true, Serial, Place, Entry, Drained, PoolEntry, Answered, Reply, Script, phase_of, Made, Turn, place_id, Report, decls_on, serial_of, answer_at, reply_at, journals_of, IsOffline, MayHaveBegun, is_done_by, IsMadeBy, StandsInTree, Step, IsAmong, steps_of, IsCausedBy, IsDrainedByCommand, MayMakeEntry, Drains, IsBeginOf, IsEnded, IsEntryOf, IsTurnOf, IsRun, IsDoneOnce, is_made_by, IsMadeOnce, HasDrained, IsMaking}
 use Rattle.shr_base.specs.declared.journals.PoolEntry.TheVariants as pool

@@ -1,3 +1,4 @@
+-- SPDX-License-Identifier: GPL-2.0-only
 -- A sum over the entries of all journals is one over what the steps made.
 use Rattle.shr_lawful.proofs.Common.{◌≡◌, ℕ, ◌+◌, List, [], ◌∷◌, refl, sym, ◌∙◌, arith, slice_get, Some, sum_by, enumerate_from, Entry, Place, Script, total, Made, Report, journals_of, places_of, Step, steps_of, all_made, IsRun, sum_total}
 use Rattle.shr_lawful.proofs.Gathering.{total_same_on}

@@ -1,3 +1,4 @@
+-- SPDX-License-Identifier: GPL-2.0-only
 -- What an event tells of the measures that only grow, and which event it is that tells a number.
 use Rattle.shr_lawful.proofs.Common.{◌≡◌, ℕ, ◌+◌, ◌≤◌, Bool, true, false, ◌&&◌, length, sym, ap, ◌∙◌, arith, eqb, nat_lt, and_parts, eqb-true, PoolEntry, Registered, Unregistered, Idle, place_number, attempts_in, Event, counted, made, looked, loaded, turned, EventTells, ToldMeasure, entries, lookups, turns, TurnTells}
 use Rattle.shr_core.specs.Ranks as core

@@ -1,3 +1,4 @@
+-- SPDX-License-Identifier: GPL-2.0-only
 -- The report of a run is faithful: what its workers told stands in the order of their commands.
 use Rattle.shr_lawful.proofs.Common.{◌≡◌, ℕ, ⊎_elim, List, [], ◌∷◌, sym, ◌∙◌, slice_get, Some, Registered, Unregistered, Answered, Reply, Script, Turn, Report, pool_made, pool_made_by, Step, IsAmong, steps_of, IsRun, ◌+◌, ◌<◌, ◌≤◌, inr, ◌++◌, length, map, ap, subst, arith, option_and_then, AllByRecursion, IsSomeAnd, same_Some, Done, UseStep, Serial, Command, Offline, Carry, group_named, IsAtOrAbove, each_append, each_weaker, Has, slice_get_within, Begins, begins_all, begins_more, AreRising, IsLaterThan, WorkerState, parents_of, decls_on, serial_of, all_carries, pool_seen, of_answer, IsFaithful, DidCarry, IsEntryOf, AreStepsChained, done_at, by_slices, some_at, EachAnswer, pool_reached, tree_reached, tree_made, AreNotAbove, IsOverOnPath, Grows}
 use Rattle.shr_base.specs.declared.replies.Reply.TheVariants as reply

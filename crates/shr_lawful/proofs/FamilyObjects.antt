@@ -1,3 +1,4 @@
+-- SPDX-License-Identifier: GPL-2.0-only
 -- What holds of each object that is added holds of each that is listed or freed, and what journals free, entry by entry.
 use Rattle.shr_lawful.proofs.Common.{◌≡◌, ℕ, zero, suc, Bool, true, false, not, cond, List, [], ◌∷◌, ◌++◌, length, length-append, take, sym, refl, ap, ◌∙◌, arith, eqb, append_assoc, Some, None, Option, find, AllByRecursion, enumerate_from, take_at, Object, Policy, Place, Entry, Add, Look, Drop, Pin, Scan, MovedIn, Closed, Drained, is_child, is_named, holds, named_in, fresh, marked_object, unmarked_object, pinned_object, step, dropped_of, freed_by, first_moved, later_moved, is_closing, at_group, Family, without_child, items_given, lists_moved_at, items_at, before_closed, each_append, total, total-append, take_while, prefix_len, change_first, without_first, items_from_push}
 use Rattle.shr_model.proofs.ItemsLaws.{moved_from_push}

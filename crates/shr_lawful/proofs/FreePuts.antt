@@ -1,3 +1,4 @@
+-- SPDX-License-Identifier: GPL-2.0-only
 -- A put that nothing is in the way of is answered Added, or that there was no memory, or that a counter is used up.
 use Rattle.shr_lawful.proofs.Common.{◌≡◌, ◌≢◌, ℕ, zero, suc, ◌+◌, ◌%◌, ◌<◌, inl, inr, true, cond, List, [], ◌∷◌, ◌++◌, take, sym, refl, ap, subst, ◌∙◌, arith, eq-eqb, ne_eqb, slice_get, Option, Some, None, nat_lt, ◌==◌, cases_Bool, and_parts, eqb-true, same_Some, none-some, dite, ℕ_discrete, PoolEntry, Registered, Unregistered, Idle, phase_of, decl_of, is_live_decl, is_free, lowest_idle, IsNextPool, IsPoolJournal, phase_of_push, some_at, decl_from_push, id_of, decl_after, ◌≤◌, ⊎_elim, false, ◌||◌, length, option_map, option_and_then, option_to_list, flat_map, AllByRecursion, list_any, IsSomeAnd, slice_get_within, At, Serial, Target, Answered, Found, Reply, Begin, Command, Put, Script, WalkRecord, group_named, Family, IsAtOrAbove, is_later, begin_of, is_begin, Report, StandsInTree, IsUnmade, IsUncached, IsOffline, MayHaveBegun, pool_seen, pool_told, tree_cited, is_begin_at, shows_begin, walk_cited, of_answer, parents_of, limit_of, decls_on, commands_of, answers_of, serial_of, journals_of, cited_at, cited_by, walks_by, id_found, IsOnlyPut, AreFreePutsAdded, IsReply, HasCause, IsOverBy, IsCausedBy, IsRun, Step, begin_found, later_of, IsUnlimited, StaysOn, StaysOnline, IsFreePut, IsAddedOrSpent, all_right}
 use Rattle.shr_model.specs.Pool.{lowest_free}

@@ -1,3 +1,4 @@
+-- SPDX-License-Identifier: GPL-2.0-only
 -- What an answer knew isn't older than what its worker had known before.
 use Rattle.shr_lawful.proofs.Common.{◌≡◌, ℕ, zero, suc, ◌+◌, ◌<◌, ◌≤◌, ◌⊎◌, inl, inr, ⊎_elim, Bool, true, false, ◌||◌, List, [], ◌∷◌, ◌++◌, length, length-append, take, map, get_or, sym, refl, ap, subst, ◌∙◌, arith, slice_get, Option, Some, None, flat_map, option_map, option_and_then, option_to_list, AllByRecursion, list_any, IsSomeAnd, same_Some, none-some, slice_get_within, cases_Bool, append-nil, Serial, Answered, Reply, TreeEntry, Begin, Done, Command, Script, WalkAnswer, WalkRecord, asks_online, is_begin, is_made, is_serial, MayBegin, each_append, each_weaker, Has, Contains_from_Has, each_has, flat_map_has, filter_has, Begins, WorkerState, IsNamed, Report, decls_on, serial_of, command_at, answers_of, walks_of, answer_at, reply_at, walks_by, MayHaveBegun, IsOffline, pool_seen, pool_made, tree_cited, walk_cited, made_shown, of_answer, is_begin_at, shows_begin, shows_offline, MayBeOffline, AreNotFalling, Step, IsAmong, steps_of, AreStepsChained, Grows, KnowsOnline, IsBeginOf, IsEntryOf, IsRun, is_made_grows, is_there, begin_at, done_at, made_at, begin_found, begun_before, is_done, tree_told, tree_seen, shows_made, shown_by, is_done_at, AreBelow, IsFresh, is_begin_of, is_done_of, LoadedState, script_hierarchy, no_test, adjacent}
 use Rattle.shr_model.proofs.Members.{Has_cases}

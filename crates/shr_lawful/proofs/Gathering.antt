@@ -1,3 +1,4 @@
+-- SPDX-License-Identifier: GPL-2.0-only
 -- What the steps of all workers have: which step has it, that only one has, and who made an entry.
 use Rattle.shr_lawful.proofs.Common.{◌≡◌, ℕ, zero, suc, ◌+◌, ◌<◌, ◌≤◌, ◌≢◌, ◌⊎◌, inl, inr, ⊎_elim, List, [], ◌∷◌, ◌++◌, length, length-append, take, sym, refl, ap, subst, ◌∙◌, arith, flat_map, slice_get, Some, AllByRecursion, same_Some, none-some, dite, ℕ_discrete, some, some-injective, some-ne-none, get_elem?, Each, total, Begins, term_le, Step, IsAmong, gathered, steps_in, steps_of, at_some, slice_left, some_at, slice_cases, terms_le, total_flat, begins_all, begins_more, WorkerState, AreStepsChained, Grows, BringsWork, Bool, true, false, cond, get_or, eqb, eq-eqb, ne_eqb, Option, None, nat_lt, option_map, option_and_then, lt-ltb, slice_get_within, slice_get-get_or, Place, Entry, Script, place_number, some_term, place_at, Made, hit, place_back, Report, parents_of, journals_of, IsThere, serial_of, commands_of, command_at, answers_of, answer_at, reply_at, cited_at, cited_by, Serial, Command, Answered, Reply, Did, StandsIn, all_made, IsRun, worker_state_after}
 

@@ -1,3 +1,4 @@
+-- SPDX-License-Identifier: GPL-2.0-only
 -- What was carried for a group that was found done was carried by a worker that hadn't done it, of a run.
 use Rattle.shr_lawful.proofs.Common.{◌≡◌, ℕ, ◌<◌, ◌≤◌, ⊎_elim, true, false, List, length, sym, ap, subst, ◌∙◌, arith, length-append, slice_get, Some, option_and_then, AllByRecursion, IsSomeAnd, cases_lt, eqb-true, same_Some, slice_get_within, dite, ℕ_discrete, Done, Serial, Reply, Script, Carry, group_named, done_at, Report, serial_of, reply_at, all_carries, is_done_by, StandsInTree, IsCausedBy, IsDoneKnown, DidCarry, IsEnded, IsEntryOf, Step, IsAmong, steps_of, IsRun, by_slices, some_at, IsDoneElsewhere}
 use Rattle.shr_base.specs.declared.replies.Reply.TheVariants as reply

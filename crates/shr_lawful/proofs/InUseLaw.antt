@@ -1,3 +1,4 @@
+-- SPDX-License-Identifier: GPL-2.0-only
 -- In a run what is done on an id's lists stands in its use, a list is drained while its id is dying, and an id comes to be idle
 -- with empty lists: what the line says of it, by the ranks of what is told.
 use Rattle.shr_lawful.proofs.Common.{◌≡◌, ℕ, ◌+◌, ◌<◌, ◌≤◌, ⊎_elim, take, List, [], ◌∷◌, ◌++◌, length, map, get_or, sym, refl, ap, subst, ◌∙◌, arith, slice_get, Some, same_Some, none-some, slice_get_within, slice_get-get_or, dite, ℕ_discrete, dec_lt, some, get_elem?, Entry, Add, Scan, Drained, PoolEntry, Registered, Idle, Place, Serial, Script, place_number, decl_at, registrations, Has, Has_map, Contains_from_Has, Deed, by_seat, part, times, among, place_id, Event, Tried, Turn, made, looked, turned, last_users, so_before, Report, journals_of, decls_on, IsThere, Told, entry, lookup, turn, count, looked_by, HasAt, IsBy, number_made, IsRun, Step, IsAmong, steps_of, Holders, no_holders, users_next, IsMadeInUse, IsOutOfUse, IsOfUse, IsDrainedEntry, EndsUse, IsEntryInUse, take-append_seam}

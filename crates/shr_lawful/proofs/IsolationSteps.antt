@@ -1,3 +1,4 @@
+-- SPDX-License-Identifier: GPL-2.0-only
 -- The isolations of a report are those of the steps, and their scans are what their steps made.
 use Rattle.shr_lawful.proofs.Common.{◌≡◌, ℕ, zero, suc, ◌-◌, ◌<◌, ◌≤◌, Bool, true, false, cond, List, [], ◌∷◌, map, sym, refl, ap, subst, ◌∙◌, arith, slice_get, Option, Some, option_map, nat_lt, ltb-true, same_Some, none-some, Entry, Scan, Policy, Serial, Target, Answered, Found, Reply, Command, Isolate, Script, Isolation, WalkRecord, place_number, first_isolation, isolation_walk, ScanSeen, Made, Report, walk_at, isolation_at, Placed, placed, placed_scan, visitor_of, Step, IsAmong, steps_of, isolations_asked, IsScanned, IsIsolationVisit, isolated_in, isolated_before, DidIsolation, IsRun, IsStep, at_some, ltb-false, isolation_told, scanning_command}
 use Rattle.shr_base.specs.declared.replies.Reply.TheVariants as reply

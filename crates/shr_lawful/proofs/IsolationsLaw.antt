@@ -1,3 +1,4 @@
+-- SPDX-License-Identifier: GPL-2.0-only
 -- The law of isolations, of a run.
 use Rattle.shr_lawful.proofs.Common.{◌≡◌, ℕ, zero, suc, ◌+◌, ◌-◌, ◌<◌, ◌≤◌, ◌⊎◌, ⊎_elim, Bool, true, false, ◌&&◌, cond, List, [], ◌∷◌, length, drop, map, sym, refl, ap, subst, ◌∙◌, arith, eq-eqb, slice_get, Option, Some, None, filter, filter_map, option_and_then, ◌==◌, AllByRecursion, cons_option, IsSomeAnd, and_parts, and_from, eqb-true, same_Some, none-some, Entry, Scan, Place, Serial, Answered, IsolateEnd, Spent, CacheDecl, Command, Script, Isolation, is_serial, decl_named, is_closed, place_number, Has, each_has, isolation_walk, ScanSeen, place_at, Made, Report, command_at, serial_of, journals_of, isolation_at, isolations_told, visitor_of, Placed, placed, placed_scan, Visitor, Step, IsAmong, steps_of, isolations_asked, IsScanned, IsIsolationVisit, MayMakeEntry, isolated_in, isolated_before, IsRun, IsWornBy, by_slices, some_at, IsLawfulIsolation, scan_seen, scans_seen, isolations_by, cache_named, IsEndCaused, IsOfIsolation, AreIsolationsLawful}
 use Rattle.shr_lawful.proofs.WalksLaw.{filter_serial}

@@ -1,3 +1,4 @@
+-- SPDX-License-Identifier: GPL-2.0-only
 -- Who made an entry of a journal, what a step was shown of it, and that the journals are lawful.
 use Rattle.shr_lawful.proofs.Common.{◌≡◌, ℕ, ◌<◌, ◌≤◌, Bool, true, false, ◌&&◌, cond, List, length, sym, refl, ap, subst, ◌∙◌, arith, eqb, eq-eqb, slice_get, Some, nat_lt, nat_le, same_Some, slice_get_within, le-leb, dite, ℕ_discrete, PoolEntry, TreeEntry, Script, total, some_term, only_yes, only_no, Turn, IsTreeEntryMade, Report, decls_on, Step, IsAmong, steps_of, all_entries, IsRun, at_some, count_total, Contains, Place, Closed, Begin, Done, IsAtOrAbove, is_closed, place_number, AreApart_of_ends, place_at, Made, parents_of, journals_of, IsThere, MayMakeEntry, IsClosedByOffline, IsEntryOf, IsEnded, closed_at, ends_once, zero, suc, ◌+◌, [], ◌∷◌, ◌++◌, length-append, take, flat_map, count_by, not, take-append-le, sum_by-IsPermutation, none-some, UseStep, Serial, ups, downs, total-append, term_le, Loaded, IsNamed, WorkerState, uses_at, lookups_at, StandsInTree, AreStepsChained, all_ops, begin_at, some_at, sum_total, is_of_worker, ups_of, downs_of, script_hierarchy, total_flat, only, gathered}
 use Rattle.shr_charge.specs.Views as charge

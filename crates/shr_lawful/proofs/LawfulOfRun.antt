@@ -1,3 +1,4 @@
+-- SPDX-License-Identifier: GPL-2.0-only
 -- The report of a run is lawful.
 use Rattle.shr_lawful.proofs.Common.{List, Script, Report, IsLawful, Step, IsRun}
 use Rattle.shr_lawful.proofs.UnitPoolsLaw.{pools_lawful}

@@ -1,3 +1,4 @@
+-- SPDX-License-Identifier: GPL-2.0-only
 -- A charge history in which each refused up is taken back ends within the limit.
 use Rattle.shr_lawful.proofs.Common.{◌≡◌, ℕ, ◌+◌, ◌≤◌, ◌≢◌, ◌⊎◌, inl, inr, ⊎_elim, Bool, true, false, not, cond, List, [], ◌∷◌, ◌++◌, length, length-append, take, drop, sym, refl, ap, subst, ◌∙◌, arith, eqb, append_assoc, slice_get, Some, find, filter, pos, ◌-ℤ◌, MatchOption, AllByRecursion, and_parts, and_from, cases_lt, cases_Bool, sum_by-append, sum_by-cons, append-nil, take_at, ints, UseStep, Serial, ups, downs, usage_after, is_by, IsDownNext, AreTakenBack, IsChargeHistory, is_serial, AreApart, each_weaker, Has, filter_has, each_has, serial_itself, drop_at, AreApart_filter}
 pub use Rattle.shr_model.proofs.Weights.{is_serial_same as serial_same}

@@ -1,3 +1,4 @@
+-- SPDX-License-Identifier: GPL-2.0-only
 -- The events that a worker noted, by their kinds, and along its steps.
 use Rattle.shr_lawful.proofs.Common.{◌≡◌, ℕ, ◌<◌, inl, inr, List, [], ◌∷◌, ap, subst, slice_get, Some, Has, by_seat, Begins, begins_all, begins_more, among, seen_in, attempts_in, Event, Made, Counted, Tried, Turn, counted, made, looked, turned, WorkerState, Step, AreStepsChained, made_in, turns_in}
 use Rattle.shr_lawful.proofs.Gathering.{later_along}

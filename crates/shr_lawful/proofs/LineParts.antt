@@ -1,3 +1,4 @@
+-- SPDX-License-Identifier: GPL-2.0-only
 -- Where the deeds of one seat stand in a line, read both ways.
 use Rattle.shr_lawful.proofs.Common.{◌≡◌, ℕ, zero, suc, ◌<◌, ◌≤◌, inl, inr, Bool, true, false, cond, take, List, [], ◌∷◌, ◌++◌, length, sym, refl, ap, subst, ◌∙◌, arith, eq-eqb, ◌==◌, eqb-true, some, some-injective, some-ne-none, get_elem?, Has, Deed, by_seat, part, among, attempts_in, Event, Tried, looked}
 use Rattle.shr_model.proofs.Members.{Has_right}

@@ -1,3 +1,4 @@
+-- SPDX-License-Identifier: GPL-2.0-only
 -- Elements of lists, and what the report and the steps of its workers have in common: operations, answers, walks, pairs.
 use Rattle.shr_lawful.proofs.Common.{◌≡◌, ℕ, zero, suc, ◌<◌, inl, inr, Bool, true, false, ◌||◌, List, [], ◌∷◌, ◌++◌, length, sym, refl, ap, subst, ◌∙◌, arith, slice_get, Some, All, Contains, AllByRecursion, cases_Bool, same_Some, none-some, slice_get_within, get_or_from_slice_get, slice_get-get_or, Entry, Closed, is_closing, is_closed, Begins, IsAmong, at_some, by_slices, some_at, closed_at, ⊎_elim, cond, eqb, eq-eqb, ◌==◌, filter, AllPairs, and_from, eqb-true, length-take-le, Contains-permutation, IsPermutation-sym, UseStep, Serial, Script, is_by, ops_by, IsChargeHistory, Has, Has_from_Contains, Contains_from_Has, each_has, Has_filter, filter_has, AreRising, IsLaterThan, WorkerState, Report, uses_at, serial_of, Step, steps_of, AreStepsChained, ops_at, all_ops, IsRun, ◌+◌, length-append, take, Option, None, flat_map, map, WorkerPart, WalkRecord, all_walks, all_carries, answers_of, walk_at, gathered, steps_in, DidWalk, IsStep, walks_in, carries_in, list_any, ◌≤◌, length-map, range_with_len, length-range_with_len, get_or-range_with_len, total, total-append}
 pub use Rattle.shr_lawful.proofs.UnitLists.{slice_begins as begins_slice}

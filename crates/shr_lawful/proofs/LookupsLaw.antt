@@ -1,3 +1,4 @@
+-- SPDX-License-Identifier: GPL-2.0-only
 -- The law of lookups, of a run.
 use Rattle.shr_lawful.proofs.Common.{◌≡◌, ℕ, ◌+◌, ◌<◌, ◌≤◌, ⊎_elim, Bool, true, false, cond, List, [], ◌∷◌, ◌++◌, length, length-append, take, sym, refl, ap, subst, ◌∙◌, arith, eqb, eq-eqb, ne_eqb, slice_get, Option, Some, None, flat_map, map, filter, filter_map, count_by, nat_lt, is_some, option_and_then, ◌==◌, if◌then◌else◌, cases_lt, ltb-true, lt-ltb, AllByRecursion, cons_option, flat_map-append, take-append-le, Found, Answered, Serial, Command, Script, Attempt, WalkRecord, WorkerPart, PoolEntry, number_of, is_held, decl_named, registrations, decl_at, is_live, decl_of, from_of, total, total-append, total_zero, Tried, hit_attempt, Report, lookups_at, walk_at, Step, IsAmong, gathered, steps_in, steps_of, lookup_numbered, numbers_tried, number_found, number_made, IsFoundBy, all_attempts, IsRun, count_total, get_or_past, attempt_at, answers_in, no_test}
 use Rattle.shr_laws.specs.Lookups.{found_number, found_numbers, tried_numbers, IsFoundRight, AreLookupsLawful}

@@ -1,3 +1,4 @@
+-- SPDX-License-Identifier: GPL-2.0-only
 -- The cause of an `offline` that was done.
 use Rattle.shr_lawful.proofs.Common.{◌≡◌, ℕ, ◌%◌, ◌^◌, ◌<◌, ◌≤◌, ◌≢◌, ⊎_elim, true, false, cond, eqb, List, length, take, refl, sym, ap, subst, ◌∙◌, arith, slice_get, Some, sum_by, filter, option_and_then, IsSomeAnd, cases_lt, eqb-true, same_Some, slice_get_within, dite, ℕ_discrete, Entry, MovedIn, Closed, Begin, Done, Place, Serial, Reply, Offline, Script, Carry, is_serial, group_named, IsAtOrAbove, is_closed, place_number, MayBegin, is_made, total, Begins, term_le, group_of, place_at, Made, Known, back, KnowsClosed, Report, parents_of, serial_of, journals_of, IsOffline, IsOfflineDone, MayHaveBegun, StandsInTree, moved_of, Step, IsAmong, steps_of, IsOfflinedBy, IsCausedBy, DidCarry, IsClosedByOffline, MayMakeEntry, IsEnded, IsEntryOf, IsRun, begun_made, begin_found, begun_before, take_in, all_zero, some_at, sum_total, closed_at, serial_itself, IsMoving, done_below, script_hierarchy, carries_by, IsAloneAt, MayHaveSpliced, objects_moved_from, no_test}
 use Rattle.shr_base.specs.declared.replies.Reply.TheVariants as reply

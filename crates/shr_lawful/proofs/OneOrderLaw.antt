@@ -1,3 +1,4 @@
+-- SPDX-License-Identifier: GPL-2.0-only
 -- What the report of a run tells is in one order: that of the events in the line of all that the workers did.
 use Rattle.shr_lawful.proofs.Common.{◌≡◌, ◌≢◌, ◌⊎◌, ℕ, zero, suc, ◌+◌, ◌<◌, ◌≤◌, inl, inr, ⊎_elim, Bool, true, cond, List, [], ◌∷◌, ◌++◌, length, map, get_or, sym, refl, ap, subst, ◌∙◌, arith, eqb, eq-eqb, slice_get, Option, Some, None, nat_lt, flat_map, option_map, option_to_list, Contains, IsSomeAnd, and_from, lt-ltb, append-nil, same_Some, none-some, slice_get-get_or, dite, ℕ_discrete, dec_lt, some, some-injective, some-ne-none, get_elem?, Entry, Scan, MovedIn, Closed, PoolEntry, Registered, Place, Serial, Answered, Reply, Script, WalkRecord, place_number, Has, Has_from_Contains, map_has, Deed, by_seat, acts_of, at_begins, among, seen_in, attempts_in, Event, Made, Tried, Turn, counted, made, looked, turned, EventTells, back, Report, IsMadeBy, serial_of, decls_on, answer_at, reply_at, walks_by, journals_of, entry_by, Told, entry, lookup, turn, count, Counting, ToldMeasure, entries, lookups, turns, looked_by, countings_of, HasAt, IsBy, TurnTells, MayMakeEntry, number_made, IsRun, Step, IsAmong, steps_of, some_at, ReportTells, TellsOf}
 use Rattle.shr_core.proofs.Unregistering.{there as at_less}

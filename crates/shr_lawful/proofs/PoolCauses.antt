@@ -1,3 +1,4 @@
+-- SPDX-License-Identifier: GPL-2.0-only
 -- The causes of answers of `unregister` that ended a registration.
 use Rattle.shr_lawful.proofs.Common.{◌≡◌, ℕ, zero, suc, ◌+◌, ◌%◌, ◌<◌, ◌≤◌, ⊎_elim, inl, inr, Bool, true, false, ◌||◌, cond, eqb, List, [], ◌∷◌, length, take, drop, refl, sym, ap, subst, ◌∙◌, arith, eq-eqb, slice_get, Some, sum_by, nat_lt, list_any, cases_Bool, cases_lt, eqb-true, and_parts, same_Some, none-some, slice_get_within, dite, ℕ_discrete, Entry, Drained, PoolEntry, Registered, Unregistered, Idle, Place, Serial, HalfWhy, Reply, Script, is_serial, phase_of, from_of, phase_of_push, Made, Turn, Report, decls_on, serial_of, drained_by, IsFreed, Step, steps_of, IsCausedBy, IsDrainedByCommand, MayMakeEntry, Drains, IsTurnOf, IsRun, all_zero, some_at, drained_of, is_idle_entry, became_idle, IsUnregistered, IsUnregisteredBy, IsFreedBy, IsHalfBy, id_of, no_test}
 use Rattle.shr_charge.proofs.Listing.{take_next}

@@ -1,3 +1,4 @@
+-- SPDX-License-Identifier: GPL-2.0-only
 -- What an answer made of the journal of registrations its worker knows at the end of the command.
 use Rattle.shr_lawful.proofs.Common.{◌≡◌, ℕ, ◌+◌, ◌<◌, ◌≤◌, ⊎_elim, List, length, take, sym, refl, ap, subst, ◌∙◌, arith, slice_get, Option, Some, option_map, AllByRecursion, IsSomeAnd, PoolEntry, Registered, Unregistered, Idle, Answered, Reply, Script, phase_of, each_weaker, Turn, Report, IsMadeBy, pool_seen, pool_made, of_answer, serial_of, reply_at, DidPool, IsTurnOf, Step, IsAmong, steps_of, IsRun}
 use Rattle.shr_base.specs.declared.replies.Reply.TheVariants as reply

@@ -1,3 +1,4 @@
+-- SPDX-License-Identifier: GPL-2.0-only
 -- A sum over a journal is the sum over the entries that the steps made there.
 use Rattle.shr_lawful.proofs.Common.{◌≡◌, ℕ, suc, ◌+◌, ◌*◌, ◌<◌, ◌≢◌, ⊎_elim, inl, inr, true, false, cond, List, [], ◌∷◌, length, sym, refl, ap, subst, ◌∙◌, arith, eq-eqb, ne_eqb, slice_get, Some, nat_lt, nat_le, ◌==◌, enumerate_from, AllByRecursion, cases_lt, same_Some, none-some, slice_get_within, dite, ℕ_discrete, Place, Entry, Script, place_number, AreApart, Has, Has_from_Contains, Contains_from_Has, map_has, AreApart_of_ends, find_end, PlaceEnd, Each, total, total_zero, total_both, place_at, Made, hit, back, Report, journal_of, journals_of, places_of, items_before, IsThere, Step, IsAmong, all_made, IsRun, not_le, cond_no, cond_yes}
 use Rattle.std.proofs.Common.{le-leb}

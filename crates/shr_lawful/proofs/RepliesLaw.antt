@@ -1,3 +1,4 @@
+-- SPDX-License-Identifier: GPL-2.0-only
 -- The law of replies, of a run.
 use Rattle.shr_lawful.proofs.Common.{◌≡◌, ℕ, ◌<◌, List, sym, ap, subst, ◌∙◌, arith, slice_get, Some, Option, same_Some, none-some, Place, Serial, Answered, Command, Entry, Add, Look, Drop, Pin, Script, place_number, by_of, Made, back, Report, parents_of, journals_of, serial_of, cited_at, cited_by, id_found, at, IsReply, Step, IsAmong, IsTenantEntry, MayMakeEntry, IsMadeAsCited, IsReplyTo, IsRun}
 use Rattle.shr_laws.specs.Replies.{AreRepliesLawful}

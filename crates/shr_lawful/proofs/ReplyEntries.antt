@@ -1,3 +1,4 @@
+-- SPDX-License-Identifier: GPL-2.0-only
 -- Which entry a reply cites, by its command.
 use Rattle.shr_lawful.proofs.Common.{◌≡◌, ℕ, Bool, List, refl, sym, subst, ◌∙◌, slice_get, Option, Some, None, same_Some, none-some, Serial, At, DropKind, Entry, Add, Look, Drop, Pin, Reply, Command, Put, On, Get, Del, SetPin, Family, cited_by, IsReply, IsReplyTo}
 use Rattle.shr_base.specs.declared.replies.Reply.TheVariants as reply

@@ -1,3 +1,4 @@
+-- SPDX-License-Identifier: GPL-2.0-only
 -- The Scan entries of a walk in the journal of a place are those that its step made there.
 use Rattle.shr_lawful.proofs.Common.{◌≡◌, ℕ, zero, suc, ◌+◌, ◌-◌, ◌<◌, ◌≤◌, ◌⊎◌, inl, inr, ⊎_elim, Bool, true, false, ◌&&◌, cond, List, [], ◌∷◌, length, length-append, map, sym, refl, ap, subst, ◌∙◌, arith, eq-eqb, slice_get, Option, Some, None, filter_map, ◌==◌, AllByRecursion, enumerate_from, cons_option, and_parts, eqb-true, cases_lt, same_Some, none-some, slice_get_within, dite, ℕ_discrete, Place, Serial, Entry, Scan, CacheDecl, Script, PassRecord, WalkRecord, place_number, due, ask_size, batch_of, total_of, ScanMade, scan_by, Has, each_has, first_isolation, total, Made, back, Report, journals_of, IsThere, AreScansOf, Step, IsAmong, gathered, steps_of, MayMakeEntry, IsScanned, scan_made, scans_made, IsRun, all_zero, at_some, some_at, sum_total, scans_by, length_total, only_at, enumerated, take_alike}
 use Rattle.shr_lawful.proofs.Gathering.{each_among, total_gathered, mine_at, mine_is, same_step, grows, maker, work_of}

@@ -1,3 +1,4 @@
+-- SPDX-License-Identifier: GPL-2.0-only
 -- In a legal journal of the tree the Done of a group stands once.
 use Rattle.shr_lawful.proofs.Common.{◌≡◌, ℕ, ◌<◌, ⊎_elim, List, take, sym, ◌∙◌, arith, slice_get, Some, cases_lt, none-some, dite, ℕ_discrete, TreeEntry, Done, Hierarchy, IsTreeJournal, done_found, take_in, MayBeDone}
 

@@ -1,3 +1,4 @@
+-- SPDX-License-Identifier: GPL-2.0-only
 -- The sweep of a run is lawful.
 use Rattle.shr_lawful.proofs.Common.{◌≡◌, ℕ, zero, suc, ◌+◌, ◌<◌, ◌≤◌, Bool, cond, List, [], ◌∷◌, ◌++◌, length, map, sym, refl, ap, subst, ◌∙◌, arith, slice_get, Option, Some, flat_map, count_by, ◌&&◌, ◌==◌, range_with_len, IsSomeAnd, sum_by-cons, sum_by-append, none-some, same_Some, Answered, Reply, Script, Sweep, WorkerScript, WalkRecord, SweepItem, End, of_job, only_job, Report, parents_of, commands_of, sweeps_in, sweeps_of, reply_at, sweep_serial, IsSwept, total, total-append, IsRun, Step, IsOfPops, job_walked, all_popped, sweep_walks, times_swept, IsSweptOut, IsSweepRight, IsSweepLawful, sweep_job, is_end, ends}
 use Rattle.shr_model.proofs.Lists.{there_at}

@@ -1,3 +1,4 @@
+-- SPDX-License-Identifier: GPL-2.0-only
 -- The steps of the workers' parts of a sweep.
 use Rattle.shr_lawful.proofs.Common.{◌≡◌, ℕ, ◌<◌, List, length, sym, subst, ◌∙◌, arith, slice_get, Some, None, same_Some, slice_get_within, slice_get_past, Answered, Script, Report, commands_of, answers_of, answer_at, sweep_serial, AreRunSteps, IsStep, Step, steps_of, AreWalksFor, IsSweepReply, DidSweep}
 use Rattle.shr_model.proofs.Lists.{there_at}

@@ -1,3 +1,4 @@
+-- SPDX-License-Identifier: GPL-2.0-only
 -- Values that meet the definitions of a sweep's walks, and values that don't.
 use Rattle.shr_lawful.proofs.Common.{◌≡◌, ℕ, false, [], ◌∷◌, refl, ap, arith, WalkRecord, End, SweepJob, IsOfPops, sweep_job}
 use Rattle.shr_base.specs.declared.replies.Reply.TheVariants as reply

@@ -1,3 +1,4 @@
+-- SPDX-License-Identifier: GPL-2.0-only
 -- In a run each take of a deferred word took what was given since the take before.
 use Rattle.shr_lawful.proofs.Common.{◌≡◌, ◌≢◌, ◌⊎◌, ℕ, suc, ◌+◌, ◌-◌, inl, inr, ⊎_elim, cond, List, [], ◌∷◌, ◌++◌, length, map, sym, refl, ap, subst, ◌∙◌, arith, eq-eqb, ne_eqb, slice_get, Option, Some, None, flat_map, range_with_len, map-append, same_Some, none-some, dite, ℕ_discrete, PlaceAmount, Place, Serial, Answered, Reply, Command, Script, WalkRecord, Deed, acts_of, part, AreSo, Move, Moves, takes_of, Report, HasCarried, serial_of, command_at, answers_of, steps_walked, steps_handed, places_offlined, IsOfflinedBy, IsCausedBy, DidMoves, told_step, IsRun, Step, steps_of, after_move, amounts_next, state_after, acts_by, Taking, DeferredAmounts, steps_by_worker, steps_by, TakesAt, TakesWhole, carry_of, IsHanded, after_step, after_all, AreWholeTakes, none_deferred, AreTakesInOrder}
 use Rattle.shr_base.specs.declared.replies.Reply.TheVariants as reply

@@ -1,3 +1,4 @@
+-- SPDX-License-Identifier: GPL-2.0-only
 -- A put's charges are those of its tries, of a run.
 use Rattle.shr_lawful.proofs.Common.{◌≡◌, ℕ, List, map, sym, ap, subst, ◌∙◌, filter, UseStep, Serial, Answered, Command, Put, Script, WalkRecord, ops_by, is_refused, jobs_of, job_of, Report, parents_of, limit_of, uses_at, ops_at, Step, IsRun, DidJobs, AreWalksFor, AreTriesOf, AreAllTries, MayMake}
 use Rattle.shr_lawful.proofs.Gathering.{Stepped, stepped}

@@ -1,3 +1,4 @@
+-- SPDX-License-Identifier: GPL-2.0-only
 -- Lists of the state that a worker's steps make longer.
 use Rattle.shr_lawful.proofs.UnitsCommon.{◌≡◌, ℕ, zero, suc, ◌+◌, ◌<◌, ◌≤◌, ◌≢◌, ◌⊎◌, inl, inr, ⊎_elim, List, [], ◌∷◌, ◌++◌, length, flat_map, sym, refl, ap, subst, ◌∙◌, arith, append_assoc, slice_get, Some, same_Some, none-some, append-nil, Begins, begins_all, begins_more, PlainState, UnitsStep, AreChained, units_state_after, drop, drop-append_seam}
 

@@ -1,3 +1,4 @@
+-- SPDX-License-Identifier: GPL-2.0-only
 -- Replies about pools: the entries that they cite, and what they tell.
 use Rattle.shr_lawful.proofs.UnitsCommon.{◌≡◌, ℕ, ◌+◌, ◌<◌, ◌≤◌, ◌⊎◌, ⊎_elim, true, false, List, [], ◌∷◌, ◌++◌, length, get_or, sym, refl, ap, subst, ◌∙◌, arith, slice_get, Option, Some, None, option_map, option_and_then, cases_lt, same_Some, none-some, slice_get_within, slice_get-get_or, PlainEntry, At, Place, Answered, Reply, Release, Grab, Script, IsPlaceOf, row_of, IsRecent, RoomMade, RoomView, part_at, with_known, with_entry, GrabAnswer, ReleaseAnswer, Sees, Makes, ReleaseGives, GrabGives, units, PlainState, no_state, IsPoolOf, Report, serial_of, commands_of, answers_of, reply_at, at, units_journal, units_cited, units_cited_at, settings_of, pool_sizes, home_of, home_room, units_release_reply, units_grab_reply, IsOther, UnitsStep, units_steps_of, AreUnits, answer_at}
 use Rattle.shr_base.specs.declared.journals.PlainEntry.TheVariants as entry

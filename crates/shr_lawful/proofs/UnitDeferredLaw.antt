@@ -1,3 +1,4 @@
+-- SPDX-License-Identifier: GPL-2.0-only
 -- The deferred words of pools, of a run.
 use Rattle.shr_lawful.proofs.UnitsCommon.{◌≡◌, ℕ, zero, suc, ◌+◌, ◌<◌, ◌≤◌, ◌≢◌, ◌⊎◌, ⊎_elim, List, [], ◌∷◌, ◌++◌, length, flat_map, sym, refl, ap, subst, ◌∙◌, arith, slice_get, Option, Some, None, filter_map, sum_by, option_and_then, append-nil, sum_by-append, none-some, Place, Script, PassRecord, PlainTry, PlainWalk, sum_at, amount_at, IsPlaceOf, total, Begins, total-append, Moves, no_moves, both, takes_of, gives_of, takes_both, gives_both, PlainState, no_state, Report, cons_option, PlainJob, pass_in, pass_at, try_at, settings_of, pool_sizes, home_of, DidPoolWalk, UnitsStep, units_steps_in, units_steps_of, last_units_state, AreUnits, deferred_word, plain_in, all_plain, pool_passes, pool_printed_at}
 use Rattle.shr_base.specs.declared.ends.PlaceAmount.{PlaceAmount}

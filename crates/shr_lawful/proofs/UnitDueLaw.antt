@@ -1,3 +1,4 @@
+-- SPDX-License-Identifier: GPL-2.0-only
 -- Each command has the walks of the pools that are due, and there is no other, of a run.
 use Rattle.shr_lawful.proofs.UnitsCommon.{◌≡◌, ℕ, zero, suc, ◌+◌, ◌<◌, ◌≤◌, ◌≢◌, ◌⊎◌, Bool, true, false, cond, List, [], ◌∷◌, ◌++◌, length, map, flat_map, sym, refl, ap, subst, ◌∙◌, arith, slice_get, Option, Some, option_map, IsSomeAnd, ◌==◌, and_parts, eqb-true, append-nil, same_Some, none-some, ℕ_discrete, Serial, Answered, Reply, Command, Script, PlainWalk, no_state, Report, serial_of, command_at, reply_at, EachAnswer, PlainJob, plain_due, EachPlain, UnitsStep, units_steps_of, AreUnits, filter, plain_by, plain_job_of}
 use Rattle.shr_model.specs.Commands.{is_serial}

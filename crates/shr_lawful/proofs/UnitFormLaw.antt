@@ -1,3 +1,4 @@
+-- SPDX-License-Identifier: GPL-2.0-only
 -- What a well formed report says of pools, of a run.
 use Rattle.shr_lawful.proofs.UnitsCommon.{◌≡◌, ℕ, zero, suc, ◌+◌, ◌<◌, ◌≤◌, ◌≢◌, ◌⊎◌, inl, inr, ⊎_elim, List, [], ◌∷◌, ◌++◌, length, map, get_or, sym, refl, ap, subst, ◌∙◌, arith, slice_get, Some, AllByRecursion, cases_lt, append-nil, map-append, slice_get_within, dite, ℕ_discrete, UnitsEnd, PlainEntry, Place, Serial, Script, PlainWalk, Sizes, IsPlaceOf, row_of, row_count, UnitsEndValue, units_end_value, PlainState, no_state, Report, answers_of, serial_of, plain_of, AreNotFalling, units_place, pool_sizes, UnitsStep, units_steps_of, AreChained, units_state_after, last_units_state, AreUnits, AllAdjacentBelow, units_ends_below, AreOfCommands, IsPlaceBefore, IsPlaceUpTo}
 use Rattle.shr_seats.proofs.RowLaws as rows

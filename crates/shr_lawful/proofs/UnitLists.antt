@@ -1,3 +1,4 @@
+-- SPDX-License-Identifier: GPL-2.0-only
 -- Small laws of lists: what stands in them, and sums.
 use Rattle.shr_lawful.proofs.UnitsCommon.{◌≡◌, ℕ, zero, suc, ◌+◌, ◌<◌, ◌≤◌, ◌≢◌, ◌⊎◌, inl, inr, ⊎_elim, Bool, cond, List, [], ◌∷◌, ◌++◌, length, sym, refl, ap, subst, ◌∙◌, arith, slice_get, Some, flat_map, sum_by, AllByRecursion, same_Some, none-some, sum_by-cons, total, Begins, total-append, count_by}
 use mathlib.Core.Option.{some, some-injective, some-ne-none}

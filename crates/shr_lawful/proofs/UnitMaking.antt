@@ -1,3 +1,4 @@
+-- SPDX-License-Identifier: GPL-2.0-only
 -- Who made an entry of a pool's journal, who made a walk of the pools, and what steps knew.
 use Rattle.shr_lawful.proofs.UnitsCommon.{◌≡◌, ℕ, ◌+◌, ◌<◌, ◌≤◌, ◌≢◌, ◌⊎◌, ⊎_elim, cond, List, [], ◌∷◌, ◌++◌, length, get_or, sym, ap, subst, ◌∙◌, arith, append_assoc, eqb, ne_eqb, slice_get, Some, nat_lt, lt-ltb, same_Some, none-some, slice_get_within, slice_get-get_or, dite, ℕ_discrete, PlainEntry, Serial, Reply, Command, Script, PlainWalk, row_count, total, Begins, IsEntryMade, CountsPrefix, RoomMade, RoomCount, part_at, units, PlainState, no_state, Report, serial_of, commands_of, command_at, reply_at, plain_at, pool_sizes, UnitsStep, units_steps_in, units_steps_of, last_units_state, units_made_in, AreUnits, some_term}
 use Rattle.shr_lawful.proofs.UnitStepKinds.{Kind, released, grabbed, walked, idle, kind_of}

@@ -1,3 +1,4 @@
+-- SPDX-License-Identifier: GPL-2.0-only
 -- Places of pools, and their rooms.
 use Rattle.shr_lawful.proofs.UnitsCommon.{◌≡◌, ℕ, zero, suc, ◌+◌, ◌*◌, ◌<◌, ◌≤◌, ◌⊎◌, inl, inr, ⊎_elim, Bool, true, false, cond, List, [], ◌∷◌, length, map, sym, refl, ap, subst, ◌∙◌, arith, ne_eqb, slice_get, ◌==◌, cases_lt, Place, PoolDecl, Script, Sizes, IsPlaceOf, row_of, row_count, place_of_row, setting_by, settings_of, pool_sizes, IsPoolOf, setting_of, home_place, pool_place, home_of, ◌/◌, ◌%◌, place_inside, home_in}
 use Rattle.std.proofs.lemmas.Nat.{div-mul-add, mod-mul-add}

@@ -1,3 +1,4 @@
+-- SPDX-License-Identifier: GPL-2.0-only
 -- The report of a run is lawful at the pools of units.
 use Rattle.shr_lawful.proofs.UnitsCommon.{List, Script, Report, UnitsStep, AreUnits, pool_sizes, refl, ArePoolsLawful}
 use Rattle.shr_lawful.proofs.UnitPrinting as printing

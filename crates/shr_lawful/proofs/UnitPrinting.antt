@@ -1,3 +1,4 @@
+-- SPDX-License-Identifier: GPL-2.0-only
 -- The journals of pools that are printed, by their rooms.
 use Rattle.shr_lawful.proofs.UnitsCommon.{◌≡◌, ℕ, zero, suc, ◌+◌, ◌<◌, ◌≤◌, ◌≢◌, ◌⊎◌, ⊎_elim, Bool, true, false, cond, List, [], ◌∷◌, ◌++◌, length, map, sym, refl, ap, subst, ◌∙◌, arith, slice_get, Option, Some, None, AllByRecursion, append-nil, map-append, same_Some, none-some, dite, ℕ_discrete, UnitsEnd, PlainEntry, Place, is_place, free_of, is_place_same, is_place_itself, Sizes, IsPlaceOf, row_of, row_count, place_of_row, row_low, UnitsEndValue, units_end_value, Report, units_journal, units_place, find, row_back, units_entries}
 use Rattle.shr_plain.specs.Ending.{units_ends, units_ends_below}

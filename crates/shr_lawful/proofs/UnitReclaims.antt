@@ -1,3 +1,4 @@
+-- SPDX-License-Identifier: GPL-2.0-only
 -- The Reclaim entries of a walk of the pools in a journal are those that the walk made there.
 use Rattle.shr_lawful.proofs.UnitsCommon.{◌≡◌, ℕ, zero, suc, ◌+◌, ◌*◌, ◌<◌, ◌≤◌, ◌≢◌, ◌⊎◌, inl, inr, ⊎_elim, Bool, true, false, ◌&&◌, cond, List, [], ◌∷◌, ◌++◌, length, sym, refl, ap, ◌∙◌, arith, eq-eqb, ne_eqb, le-leb, slice_get, Option, Some, None, filter_map, sum, ◌==◌, nat_lt, nat_le, enumerate_from, cons_option, and_parts, eqb-true, cases_lt, leb-true, lt-ltb, same_Some, none-some, slice_get_within, dite, ℕ_discrete, PlainEntry, total, RoomMade, ScanSeen, units_scan_by, ReclaimMade, reclaim_by, times_made}
 use Rattle.shr_base.specs.declared.journals.PlainEntry.TheVariants as entry

@@ -1,3 +1,4 @@
+-- SPDX-License-Identifier: GPL-2.0-only
 -- The journals of pools that are printed, and the replies that cite them, of a run.
 use Rattle.shr_lawful.proofs.UnitsCommon.{◌≡◌, ℕ, ◌+◌, ◌<◌, ◌≤◌, ◌⊎◌, ⊎_elim, true, false, List, [], ◌∷◌, ◌++◌, length, take, sym, refl, ap, subst, ◌∙◌, arith, length-append, slice_get, Option, Some, option_map, option_and_then, IsSomeAnd, AllByRecursion, take-append_seam, same_Some, none-some, UnitsEnd, PlainEntry, At, Place, Serial, Answered, Reply, Command, Release, Grab, Script, PassRecord, PlainWalk, free_of, IsPlaceOf, row_of, row_count, place_of_row, Begins, row_low, RoomMade, RoomView, part_at, GrabAnswer, ReleaseAnswer, Sees, Makes, ReleaseGives, GrabGives, units_end_value, PlainState, no_state, IsPoolOf, Report, at, EachAnswer, pool_place, units_journal, units_cited, units_cited_at, plain_at, pass_at, units_place, settings_of, pool_sizes, home_of, home_room, units_release_reply, units_grab_reply, IsOther, UnitsStep, units_steps_of, AreUnits, ⊤, IsPlainJournal, plain_by_of, EachUnits, AreUnitsRight, CitesUnits, IsTooFull, IsPoolReply, IsOfPlain}
 use Rattle.shr_base.specs.declared.journals.PlainEntry.TheVariants as entry

@@ -1,3 +1,4 @@
+-- SPDX-License-Identifier: GPL-2.0-only
 -- What a step did and saw in one room.
 use Rattle.shr_lawful.proofs.UnitsCommon.{◌≡◌, ℕ, ◌+◌, ◌<◌, ◌≤◌, ◌≢◌, ◌⊎◌, true, false, List, [], ◌∷◌, ◌++◌, length, map, sym, refl, ap, subst, ◌∙◌, arith, append_assoc, Some, flat_map, append-nil, dite, ℕ_discrete, PlainEntry, Place, Serial, Reply, Script, PassRecord, PlainWalk, IsPlaceOf, row_of, Begins, begins_all, RoomMade, RoomCount, RoomView, part_at, with_known, with_entry, IsRecent, GrabAnswer, ReleaseAnswer, Sees, Makes, ReleaseGives, GrabGives, units, PlainState, IsPoolOf, at, units_cited, pass_at, plain_versions, settings_of, pool_sizes, home_of, home_room, units_release_reply, units_grab_reply, DidRelease, DidGrab, IsTold}
 use Rattle.shr_base.specs.declared.journals.PlainEntry.TheVariants as entry

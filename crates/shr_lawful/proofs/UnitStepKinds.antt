@@ -1,3 +1,4 @@
+-- SPDX-License-Identifier: GPL-2.0-only
 -- The kinds of steps: a release, a grab, a walk of the pools, or none of these.
 use Rattle.shr_lawful.proofs.UnitsCommon.{◌≡◌, ℕ, List, [], ◌∷◌, refl, ap, ◌∙◌, Serial, Reply, Command, Release, Grab, PoolDecl, Script, PlainState, PlainJob, plain_due, DidRelease, DidGrab, DidPoolWalk, IsOther, DidUnitsOf, plain_jobs, DidPoolWalks}
 

@@ -1,3 +1,4 @@
+-- SPDX-License-Identifier: GPL-2.0-only
 -- What the tries of a walk of the pools did in each room.
 use Rattle.shr_lawful.proofs.UnitsCommon.{◌≡◌, ℕ, zero, suc, ◌+◌, ◌<◌, ◌≤◌, ◌≢◌, ◌⊎◌, inl, inr, ⊎_elim, Bool, true, false, cond, List, [], ◌∷◌, ◌++◌, length, sym, refl, ap, subst, ◌∙◌, arith, append_assoc, slice_get, Option, Some, None, sum_by, append-nil, sum_by-append, sum_by-cons, same_Some, none-some, dite, ℕ_discrete, Place, Serial, PassRecord, PlainTry, Empty, Skip, Ran, sum_at, amount_at, is_place, is_place_same, is_place_itself, Moves, both, takes_of, gives_of, no_moves, takes_both, gives_both, Sizes, row_of, IsAcross, part_at, Setting, PlainState, home_place, answer_of, pass_in, amount_of, moves_by, one_place, TryGives, AreTried}
 use Rattle.shr_model.proofs.Booleans.{no_test}

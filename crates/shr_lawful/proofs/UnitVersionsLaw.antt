@@ -1,3 +1,4 @@
+-- SPDX-License-Identifier: GPL-2.0-only
 -- The versions that a worker's walks of the pools counted at one place, of a run.
 use Rattle.shr_lawful.proofs.UnitsCommon.{◌≡◌, ℕ, zero, suc, ◌+◌, ◌<◌, ◌≤◌, ◌≢◌, ◌⊎◌, ⊎_elim, List, [], ◌∷◌, ◌++◌, length, map, flat_map, get_or, sym, refl, ap, subst, ◌∙◌, arith, slice_get, Option, Some, None, option_map, option_to_list, AllByRecursion, append-nil, map-append, PlainEntry, Place, Serial, Script, PlainTry, PlainWalk, IsPlaceOf, row_of, IsRecent, RoomCount, RoomView, part_at, PlainState, no_state, Report, serial_of, at, AreNotFalling, plain_of, units_cited_at, try_at, EachPlain, version_in, plain_versions, pool_sizes, home_of, UnitsStep, units_steps_of, AreChained, units_state_after, last_units_state, AreUnits}
 use Rattle.std.proofs.lemmas.Grind.{flat_map-append}

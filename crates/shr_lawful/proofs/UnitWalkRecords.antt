@@ -1,3 +1,4 @@
+-- SPDX-License-Identifier: GPL-2.0-only
 -- The walks of the pools in a report: by the steps that made them.
 use Rattle.shr_lawful.proofs.UnitsCommon.{◌≡◌, ℕ, zero, suc, ◌+◌, ◌<◌, ◌≤◌, ◌≢◌, ◌⊎◌, ⊎_elim, List, [], ◌∷◌, ◌++◌, length, sym, refl, ap, subst, ◌∙◌, arith, length-append, slice_get, Option, Some, None, enumerate_from, cases_lt, append-nil, same_Some, none-some, dite, ℕ_discrete, PlainEntry, Serial, Script, PlainWalk, row_count, total, IsEntryMade, RoomMade, ScanSeen, units_scan_by, scans_of, PlainState, no_state, Report, PlainJob, plain_at, plain_due, ReclaimMade, reclaim_by, reclaims_by, pool_sizes, DidPoolWalk, UnitsStep, units_steps_in, units_steps_of, last_units_state, units_made_in, AreUnits}
 use Rattle.shr_base.specs.declared.journals.PlainEntry.TheVariants as entry

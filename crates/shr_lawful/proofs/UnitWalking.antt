@@ -1,3 +1,4 @@
+-- SPDX-License-Identifier: GPL-2.0-only
 -- What a walk of the pools did in each room.
 use Rattle.shr_lawful.proofs.UnitsCommon.{◌≡◌, ℕ, ◌+◌, ◌<◌, ◌≤◌, ◌≢◌, ◌⊎◌, ⊎_elim, Bool, true, false, cond, List, [], ◌∷◌, ◌++◌, length, sym, refl, ap, subst, ◌∙◌, arith, slice_get, Option, Some, None, option_map, option_to_list, option_and_then, nat_le, ◌==◌, append-nil, none-some, slice_get_within, PlainEntry, Place, Serial, Reply, Script, PassRecord, PlainAnswer, PlainTry, Empty, Skip, Ran, PlainWalk, is_place, is_place_same, is_place_itself, row_of, Begins, IsAcross, Count, MatchPass, count_of, RoomMade, RoomCount, RoomView, part_at, IsRecent, units_kind, PlainState, IsPoolOf, setting_of, home_place, Answers, answer_of, PlainJob, pass_in, pool_place, try_at, version_in, settings_of, pool_sizes, home_of, home_room, DidPoolWalk, IsReclaimOf}
 use Rattle.shr_base.specs.declared.journals.PlainEntry.TheVariants as entry

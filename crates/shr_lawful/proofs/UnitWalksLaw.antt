@@ -1,3 +1,4 @@
+-- SPDX-License-Identifier: GPL-2.0-only
 -- Each walk of the pools in the report of a run is lawful.
 use Rattle.shr_lawful.proofs.UnitsCommon.{◌≡◌, ℕ, zero, suc, ◌+◌, ◌<◌, ◌≤◌, ◌≢◌, ◌⊎◌, inl, inr, ⊎_elim, Bool, true, false, cond, List, [], ◌∷◌, ◌++◌, length, map, take, sym, refl, ap, subst, ◌∙◌, arith, length-append, eqb, slice_get, Some, sum_by, sum, nat_le, ◌==◌, ◌^◌, AllByRecursion, enumerate_from, take-append_seam, eqb-true, leb-true, same_Some, none-some, slice_get_within, PlainEntry, Place, Serial, Spent, PoolDecl, Script, PassRecord, PlainAnswer, PlainTry, Empty, Skip, Ran, PlainWalk, free_of, IsPlaceOf, row_count, total, Begins, row_low, begins_more, Count, ScanSeen, MatchPass, count_of, CountsPrefix, RoomMade, RoomCount, RoomView, part_at, Setting, IsJournalWorn, units_kind, units_scan_by, scans_of, setting_by, settings_of, pool_sizes, units, setting_of, Answers, answer_of, Report, IsPoolSpent, pass_in, pool_place, units_journal, EachPlain, version_in, ReclaimMade, reclaim_by, reclaims_by, home_of, home_room, DidPoolWalk, UnitsStep, AreUnits, replicate, All, append_cancel_left, sum-map, get_or_from_slice_get, asked_of, scan_freed, AreCut, AreScans, EndsBy, TryHadMemory, try_lacked_memory, EachTry, HasTries, plain_told, len_in, freed_in_try, IsPlainCount, IsKind, IsPlainEnding, IsPlainPass, IsPlainLawful}
 use Rattle.shr_base.specs.declared.journals.PlainEntry.TheVariants as entry

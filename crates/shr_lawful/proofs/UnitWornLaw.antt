@@ -1,3 +1,4 @@
+-- SPDX-License-Identifier: GPL-2.0-only
 -- A pool's journal that was found used up, of a run.
 use Rattle.shr_lawful.proofs.UnitsCommon.{◌≡◌, ℕ, ◌+◌, ◌<◌, ◌≤◌, List, ◌++◌, length, take, sym, refl, ap, subst, ◌∙◌, arith, length-append, slice_get, Some, ◌^◌, take-append_seam, PlainEntry, Place, Serial, Reply, Spent, Command, Release, Grab, Script, free_of, IsPlaceOf, row_of, Begins, row_low, RoomView, GrabAnswer, ReleaseAnswer, Sees, IsJournalWorn, ReleaseGives, GrabGives, settings_of, pool_sizes, IsPoolOf, Report, IsPoolSpent, command_at, reply_at, pool_place, units_journal, home_of, home_room, units_release_reply, units_grab_reply, DidUnitsOf, UnitsStep, units_steps_of, AreUnits, IsPoolWorn}
 use Rattle.shr_base.specs.declared.replies.Reply.TheVariants as reply

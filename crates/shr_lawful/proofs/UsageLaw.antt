@@ -1,3 +1,4 @@
+-- SPDX-License-Identifier: GPL-2.0-only
 -- The final usage of a group is the number of the listed objects born at or below it.
 use Rattle.shr_lawful.proofs.Common.{◌≡◌, ℕ, suc, ◌+◌, ◌<◌, ◌≤◌, ⊎_elim, true, not, cond, List, [], ◌∷◌, ◌++◌, length, sym, refl, ap, subst, ◌∙◌, arith, eqb, slice_get, Some, None, Option, sum_by, option_and_then, pos, IfSome, AllByRecursion, enumerate_from, ints, take_all, length-map, sum_by-IsPermutation, none-some, slice_get_past, cases_lt, UseStep, Entry, Add, Object, Place, Serial, GroupDecl, Script, serials_of, added_by, added_by_all, added_in, freed_at, listed_in, ups, downs, usage_after, AreTakenBack, lists_moved_at, items_at, items_of, is_at_or_above, born_below, freed_by, items_from, total, total-append, Made, Report, parents_of, limits_of, limit_of, journals_of, places_of, uses_at, items_left, Step, gathered, ops_at, added_below, made_freed_below, all_made, all_ops, IsRun, count_total, sum_total, listed_below, AreChargesLawful, total_flat}
 use Rattle.shr_model.specs.Bag as bags

@@ -1,3 +1,4 @@
+-- SPDX-License-Identifier: GPL-2.0-only
 -- Along a worker's walks the versions at a place never fall.
 use Rattle.shr_lawful.proofs.Common.{◌≡◌, ℕ, zero, suc, ◌≤◌, true, false, List, [], ◌∷◌, length, map, sym, refl, ap, subst, ◌∙◌, slice_get, Option, Some, option_and_then, IsSomeAnd, same_Some, none-some, CacheDecl, Script, Attempt, Outcome, PassRecord, WalkRecord, Count, number_of, is_held, pass_of, counts_of, place_number, place_in, Counted, Report, journals_of, items_before, IsThere, cache_of, IsCountRight, IsOutcomeOf, AreScansOf, IsStopped, IsLawfulWalk, Step, IsAmong, scans_made, HasMetCache, counted_in, IsRun, at_some, by_slices, some_at, cache_met, ◌+◌, ⊎_elim, Bool, cond, ◌++◌, arith, eqb, eq-eqb, ne_eqb, flat_map, filter, AllByRecursion, some, some-ne-none, get_elem?, eqb-true, flat_map-append, map-append, Place, is_place, versions_at, is_place_same, is_place_itself, Each, Each-append, at_begins, place_at, Rising, AreFresh, WorkerState, walks_of, AreNotFalling, steps_of, AreStepsChained, flat_zero, no_test, adjacent}
 use Rattle.shr_base.specs.declared.walks.Outcome.TheVariants.{Worn, Gone}

@@ -1,3 +1,4 @@
+-- SPDX-License-Identifier: GPL-2.0-only
 -- The causes of what walks met.
 use Rattle.shr_lawful.proofs.Common.{◌≡◌, ℕ, List, length, length-append, ap, arith, slice_get, Some, Entry, Spent, Script, Report, IsSpent, Step, steps_of, IsWornBy, IsRun, refl, Begin, Attempt, Ending, PassRecord, WalkRecord, pass_of, place_number, place_in, journals_of, walk_at, StandsInTree, IsEndingRight, IsPassCaused}
 use Rattle.shr_base.specs.declared.replies.Spent.TheVariants as spent

@@ -1,3 +1,4 @@
+-- SPDX-License-Identifier: GPL-2.0-only
 -- The law of walks, of a run.
 use Rattle.shr_lawful.proofs.Common.{◌≡◌, ℕ, zero, suc, ◌<◌, ◌≤◌, ◌≢◌, inl, inr, ⊎_elim, Bool, true, false, ◌||◌, cond, List, [], ◌∷◌, ◌++◌, length, map, sym, refl, ap, subst, ◌∙◌, arith, slice_get, Option, Some, flat_map, filter, count_by, option_and_then, AllByRecursion, list_any, IsSomeAnd, append-nil, dite, ℕ_discrete, same_Some, none-some, Place, Serial, Entry, Scan, Answered, Reply, Command, Put, Script, Attempt, MapSeen, WalkRecord, Count, counts_of, is_clearing, is_set, ops_by, is_refused, is_serial, jobs_of, place_number, is_place, unit_of, bit_of, job_of, place_in, passes_at, versions_at, clearings_of, is_place_same, is_place_itself, times, only, Begins, total-append, some_term, only_no, place_at, map_number, Made, Mapped, back, Report, parents_of, limit_of, journals_of, serial_of, walks_by, walk_at, all_walks, cited_at, cited_by, uses_at, items_before, at, IsThere, IsToldBy, FillsPlace, Covers, Step, IsAmong, gathered, steps_of, IsSetLast, IsMadeAsCited, mapped_in, cleared_by_walk, map_word, DidRoundsOf, DidJobs, AreWalksFor, ops_at, all_cleared, IsMapOf, IsRun, Has, filter_has, map_has, Has_flat_map, at_some, by_slices, some_at, serial_itself, filter_both, IsOfPass, AreRoundsOf, AreWalksOf, MayMake, was_cleared, AreWalksLawful, no_test}
 use Rattle.shr_model.proofs.Weights.{is_serial_same}

@@ -1,3 +1,4 @@
+-- SPDX-License-Identifier: GPL-2.0-only
 -- A walk of a group that its worker was shown to be offline finds it offline, of a run.
 use Rattle.shr_lawful.proofs.Common.{◌≡◌, ℕ, ◌<◌, List, ap, ◌∙◌, arith, Some, true, slice_get_within, Serial, Script, WalkAnswer, WalkRecord, Report, shows_offline, serial_of, walk_at, Step, steps_of, IsRun, IsWalkRefused}
 use Rattle.shr_model.proofs.Lists.{there_at}

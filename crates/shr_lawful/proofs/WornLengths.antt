@@ -1,3 +1,4 @@
+-- SPDX-License-Identifier: GPL-2.0-only
 -- How many objects a journal leaves is told by its entries alone, whatever lists were moved in.
 use Rattle.shr_lawful.proofs.Common.{◌≡◌, ℕ, ◌+◌, Bool, true, false, cond, List, [], ◌∷◌, ◌++◌, length, sym, refl, ap, ◌∙◌, arith, Option, Some, None, Object, Serial, DropKind, Entry, Add, Look, Drop, Pin, Scan, MovedIn, Closed, Drained, added_by, drop_kind_of, dropped_of, step, IsOutcome, first_moved, later_moved, freed_by, named_in, weight, mass, weight_append, mass_append, given_by, mass_of_journal}
 use Rattle.shr_base.specs.declared.journals.DropKind.TheVariants.{Dropped, Pinned, Miss}

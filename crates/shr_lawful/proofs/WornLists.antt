@@ -1,3 +1,4 @@
+-- SPDX-License-Identifier: GPL-2.0-only
 -- A list that a command met used up would hold no more objects than the script has puts.
 use Rattle.shr_lawful.proofs.Common.{◌≡◌, ℕ, ◌≤◌, ◌⊎◌, ⊎_elim, List, [], length, take, sym, refl, ap, subst, ◌∙◌, arith, slice_get, Some, take_all, take-append-le, Entry, Object, Place, Script, moved_in, lists_moved_at, items_at, items_from, HasJournal, place_number, at_group, child_takes, Has, Contains_from_Has, Begins, Report, parents_of, puts_of, journals_of, places_of, IsThere, Step, IsAmong, steps_of, KnowsList, IsOneMore, AreBoth, IsListWorn, IsRun, AreOutcomes}
 use Rattle.shr_lawful.proofs.BagLaw.{whole}

@@ -1,3 +1,4 @@
+-- SPDX-License-Identifier: GPL-2.0-only
 -- The objects that were added are each of another put that was answered so, and where each put was, there are as many.
 use Rattle.shr_lawful.proofs.Common.{◌≡◌, ℕ, zero, suc, ◌+◌, ◌≤◌, ◌⊎◌, inl, inr, ⊎_elim, Bool, true, false, cond, List, [], ◌∷◌, length, length-append, take, sym, refl, ap, subst, ◌∙◌, arith, slice_get, Option, Some, None, filter, sum_by, enumerate_from, same_Some, none-some, sum_by-cons, Entry, Add, At, Target, Place, Reply, Command, Put, Script, WorkerScript, added_by, added_by_all, added_in, is_put, is_at_or_above, path_of, Has_from_Contains, Each, total, place_at, Made, Report, charged, parents_of, puts_of, commands_in, commands_of, answers_of, serial_of, id_found, journals_of, places_of, DoPutsAddUp, IsReply, added_below, Step, steps_in, steps_of, IsPut, IsRun, all_made, sum_total, MayStand, IsAtOrAbove-root, IsEachAdded, count_total}
 use Rattle.std.proofs.lemmas.List.Concat.{length-flat_map}

@@ -1,3 +1,4 @@
+-- SPDX-License-Identifier: GPL-2.0-only
 -- What a list held after some of its entries was freed later, or is listed at the end, in it or above it.
 use Rattle.shr_lawful.proofs.Common.{◌≡◌, ℕ, zero, suc, ◌+◌, ◌<◌, ◌≤◌, inl, inr, ⊎_elim, Bool, true, false, ◌&&◌, ◌==◌, cond, List, [], ◌∷◌, ◌++◌, length, take, drop, sym, refl, ap, subst, ◌∙◌, arith, eq-eqb, ne_eqb, Contains, nat_lt, and_parts, and_from, eqb-true, ltb-true, lt-ltb, length_permutation, dite, ℕ_discrete, Object, Place, Serial, Entry, MovedIn, serials_of, added_in, freed_at, listed_in, Family, moved_in, before_closed, without_child, items_given, lists_moved_at, items_at, items_of, IsLegal, IsTree, parent_of, is_child, step, first_moved, later_moved, freed_by, is_closed, at_group, is_place, child_takes, child_higher, IsWhole, bag_of_legal, Has, Has_from_Contains, is_place_same, is_place_itself, weight, mass, weight_append, mass_append, given_by, mass_of_journal, total, total_both, gives_before, open_legal, closed_below_root, parent_place, given_to_parent, freed_in, no_test}
 use Rattle.shr_lawful.proofs.Gathering.{weighs}

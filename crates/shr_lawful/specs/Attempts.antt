@@ -1,3 +1,4 @@
+-- SPDX-License-Identifier: GPL-2.0-only
 -- What an attempt of a command's walk met and did.
 use Rattle.std.specs.Prelude.{◌≡◌, ℕ, ◌-◌, ◌<◌, ◌≤◌, ◌^◌, ◌==◌, true, cond, List, filter_map, slice_get, Option, Some, None}
 use Rattle.std.specs.Option.{is_some}

@@ -1,3 +1,4 @@
+-- SPDX-License-Identifier: GPL-2.0-only
 -- What an answer came from, in what its command did and its worker knew.
 use Rattle.std.specs.Prelude.{◌≡◌, ℕ, pos, ◌%◌, ◌^◌, ◌<◌, ◌≤◌, ◌⊎◌, nat_lt, true, false, [], length, map, take, filter, sum_by, Option, Some, None, option_and_then, All}
 use Rattle.std.specs.Option.{IsSomeAnd}

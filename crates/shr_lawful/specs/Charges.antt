@@ -1,3 +1,4 @@
+-- SPDX-License-Identifier: GPL-2.0-only
 -- The charges of a command.
 use Rattle.std.specs.Prelude.{◌≡◌, ℕ, pos, ◌-ℤ◌, ◌<◌, ◌≤◌, true, ◌==◌, cond, List, length, map, filter, sum_by, Some, All}
 use Rattle.shr_base.specs.declared.journals.Entry.{Entry}

@@ -1,3 +1,4 @@
+-- SPDX-License-Identifier: GPL-2.0-only
 -- What a command took from the deferred words, and gave to them.
 use Rattle.std.specs.Prelude.{◌≡◌, ◌⊎◌, ℕ, ◌<◌, List, [], ◌++◌, map, flat_map, slice_get, Some, AllPairs, All}
 use Rattle.shr_base.specs.declared.ends.PlaceAmount.{PlaceAmount}

@@ -1,3 +1,4 @@
+-- SPDX-License-Identifier: GPL-2.0-only
 -- What a command did: one record for all commands, over its answer, its walks and carries, and what it added to its worker's
 -- state. The laws of a report are proved from these and from what is left of the tables.
 use Rattle.shr_base.specs.declared.scripts.Script.{Script}

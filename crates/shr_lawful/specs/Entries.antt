@@ -1,3 +1,4 @@
+-- SPDX-License-Identifier: GPL-2.0-only
 -- Which entries a command makes in the journals of the lists, and which of them its reply cites.
 use Rattle.std.specs.Prelude.{◌≡◌, ◌⊎◌, ℕ, ◌+◌, ◌<◌, ◌≤◌, List, [], ◌∷◌, ◌++◌, length, flat_map, slice_get, Option, Some, None, option_and_then, Contains}
 use Rattle.shr_base.specs.declared.objects.Object.{Object}

@@ -1,3 +1,4 @@
+-- SPDX-License-Identifier: GPL-2.0-only
 -- What an isolation did.
 use Rattle.std.specs.Prelude.{◌≡◌, ℕ, ◌<◌, List, [], ◌∷◌, length, map, flat_map, take, slice_get, Some, AllPairs, option_and_then}
 use Rattle.shr_base.specs.declared.replies.IsolateEnd.TheVariants as ending

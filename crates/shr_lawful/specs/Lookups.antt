@@ -1,3 +1,4 @@
+-- SPDX-License-Identifier: GPL-2.0-only
 -- The lookups of a command: those of its walks, and that of the cache that it found.
 use Rattle.std.specs.Prelude.{◌≡◌, ℕ, ◌≤◌, true, ◌++◌, length, take, map, flat_map, Some, option_and_then}
 use Rattle.shr_base.specs.declared.replies.Found.{Found}

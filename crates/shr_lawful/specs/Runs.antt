@@ -1,3 +1,4 @@
+-- SPDX-License-Identifier: GPL-2.0-only
 -- A run, in plain data: a report, the steps of its workers, and what was left of the tables.
 use Rattle.std.specs.Prelude.{◌≡◌, ℕ, ◌+◌, ◌*◌, ◌/◌, ◌%◌, ◌<◌, ◌≤◌, ◌&&◌, nat_lt, nat_le, true, cond, List, [], ◌∷◌, length, drop, map, flat_map, codes, slice_get, Some, option_and_then, All, IsPermutation}
 use Rattle.std.specs.List.{AllByRecursion}

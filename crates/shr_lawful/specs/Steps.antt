@@ -1,3 +1,4 @@
+-- SPDX-License-Identifier: GPL-2.0-only
 -- What the workers did: each command, and behind them the sweep of a script that has one.
 use Rattle.std.specs.Prelude.{◌≡◌, ℕ, ◌+◌, true, List, [], ◌∷◌, ◌++◌, flat_map, slice_get, Option, Some, None}
 use Rattle.std.specs.Option.{IsSomeAnd}

@@ -1,3 +1,4 @@
+-- SPDX-License-Identifier: GPL-2.0-only
 -- The walks of a sweep, and the jobs that the workers' passes popped for them.
 use Rattle.std.specs.Prelude.{◌≡◌, ℕ, ◌<◌, List, [], ◌∷◌, ◌++◌, length, map, flat_map, Some, None, slice_get}
 use Rattle.std.specs.List.{range_with_len}

@@ -1,3 +1,4 @@
+-- SPDX-License-Identifier: GPL-2.0-only
 -- What the workers of a run did at the pools of units, in plain data, and what is printed of it.
 use Rattle.std.specs.Prelude.{◌≡◌, ℕ, ◌+◌, ◌<◌, ◌≤◌, nat_lt, cond, List, length, map, flat_map, slice_get, Some, ⊤}
 use Rattle.std.specs.List.{AllByRecursion}

@@ -1,3 +1,4 @@
+-- SPDX-License-Identifier: GPL-2.0-only
 -- What the workers did at the pools of units, command by command.
 use Rattle.std.specs.Prelude.{◌≡◌, ℕ, List, [], ◌∷◌, flat_map, slice_get, Option, Some, None}
 use Rattle.shr_base.specs.declared.journals.PlainEntry.{PlainEntry}

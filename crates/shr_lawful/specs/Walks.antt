@@ -1,3 +1,4 @@
+-- SPDX-License-Identifier: GPL-2.0-only
 -- The walks of a command.
 use Rattle.std.specs.Prelude.{◌≡◌, ◌≢◌, ℕ, ◌+◌, ◌<◌, ◌≤◌, true, false, ◌==◌, List, [], length, map, filter, flat_map, count_by, slice_get, Option, Some, None, is_some, AllPairs}
 use Rattle.std.specs.List.{AllByRecursion, range_with_len, list_any}

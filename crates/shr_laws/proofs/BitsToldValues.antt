@@ -1,3 +1,4 @@
+-- SPDX-License-Identifier: GPL-2.0-only
 -- The bits of the second whole report are told as they must be, and for each sentence of that a report of a run, changed in
 -- one place, whose aren't.
 use Rattle.shr_laws.proofs.Common.{◌≡◌, ℕ, zero, suc, ◌<◌, true, List, [], ◌∷◌, length, take, find, flat_map, Contains, option_and_then, refl, arith, ap, subst, sym, inl, ⊎_elim, PlaceEnd, Entry, Object, Place, WalkRecord, items_given, is_place, Has_from_Contains, Report, serial_of, parents_of, cited_by, at, journal_of, journals_of, all_walks, FillsPlace}

@@ -1,3 +1,4 @@
+-- SPDX-License-Identifier: GPL-2.0-only
 -- The lists on which the second whole report's worker acts go up only, and those of a report of a run, changed in one place,
 -- don't.
 use Rattle.shr_laws.proofs.Common.{◌≡◌, ℕ, zero, suc, [], ◌∷◌, codes, refl, arith, ap, sym, subst, ⊎_elim, At, Place, IsAtOrAbove, Has_from_Contains, parents_of, at, Get, On}

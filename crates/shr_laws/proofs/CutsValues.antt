@@ -1,3 +1,4 @@
+-- SPDX-License-Identifier: GPL-2.0-only
 -- The second whole report's cuts are told, and reports of a run, changed in one place, whose aren't.
 use Rattle.shr_laws.proofs.Common.{◌≡◌, ℕ, ◌≤◌, true, false, List, [], ◌∷◌, length, refl, arith, Answered, WalkAnswer, WalkRecord, Report, AllPairs, is_cut}
 use Rattle.shr_base.specs.declared.replies.Reply.TheVariants as reply

@@ -1,3 +1,4 @@
+-- SPDX-License-Identifier: GPL-2.0-only
 -- The second whole report is faithful, and for each sentence of that a report of a run, changed in one place, isn't.
 use Rattle.shr_laws.proofs.Common.{◌≡◌, ℕ, zero, suc, ◌<◌, ◌≤◌, ◌≢◌, ◌==◌, true, false, cond, if◌then◌else◌, List, [], ◌∷◌, Some, refl, slice_get, arith, sym, ap, subst, ◌∙◌, ⊎_elim, Registered, Unregistered, Idle, Begin, Done, UseStep, Answered, last_number, Has_from_Contains, IsSomeAnd, Report, is_done_by, serial_of, reply_at, lookups_at, of_answer, pool_made_by, shows_offline}
 use Rattle.shr_base.specs.declared.replies.Reply.TheVariants as reply

@@ -1,3 +1,4 @@
+-- SPDX-License-Identifier: GPL-2.0-only
 -- Changes that break the sentences that no other change here breaks: sizes and names, totals,
 -- rounds, walks that were cut, rows of the table of replies, and a list that two caches share.
 use Rattle.shr_laws.proofs.Common.{◌≡◌, ◌≤◌, ℕ, true, List, [], ◌∷◌, codes, length, replicate, Some, None, refl, arith, ap, inl, inr, Entry, Add, Drop, Drained, Registered, Unregistered, Idle, WalkRecord, Has, Has_from_Contains, Report, serial_of, journals_of, IsReply, HasCause, AreRepliesLawful, AreJournalsLawful, IsBagLawful, AreWalksLawful, IsFoundRight, AreLookupsLawful, AreChargesLawful, IsDeferredLawful, MovedIn, IsBegun, AreRoundsOfPut, Del, Get}

@@ -1,3 +1,4 @@
+-- SPDX-License-Identifier: GPL-2.0-only
 -- The first whole report is lawful for its script.
 use Rattle.shr_laws.proofs.Common.{◌≡◌, ℕ, zero, suc, ◌+◌, ◌<◌, ◌≤◌, Bool, true, false, cond, ◌&&◌, nat_lt, count_by, flat_map, List, [], ◌∷◌, ◌++◌, length, take, Some, None, slice_get, refl, Contains, arith, sym, ap, subst, Place, at_group, parent_of, is_closed, moved_in, items_given, MayStand, cons_option, map, ◌%◌, UseStep, ops_by, versions_at, ◌==◌, if◌then◌else◌, Registered, Found, decl_named, lookups_at, IsFoundRight, AreLookupsLawful, IsDeferredLawful, AreBitsLawful, pos, ◌-ℤ◌, IfSome, IsSomeAnd, ups, usage_after, IsNextUse, IsChargeHistory, AreTakenBack, is_put, command_at, reply_at, IsDownBetween, charged, freed_below, listed_below, AreChargesLawful, ◌||◌, list_any, PoolEntry, Answered, WalkRecord, answers_of, pool_seen, pool_made, tree_seen, of_answer, shown_by, is_begin_at, is_done_at, AreBelow, AreCausesLawful, IsLawful, IsOfIsolation, isolations_told, AreIsolationsLawful, AreNotFalling, IsOfPass, uses_at, walks_of, parents_of, serial_of, cited_at, journals_of, items_left, at, AreRepliesLawful, AreJournalsLawful, AreWalksLawful, IsBagLawful, Serial, At, PlainWalk, IsThere, is_set_at, ArePoolsLawful, plain_at, units_cited_at, walk_at}
 use Rattle.shr_model.specs.Groups.{path_within, preorder_within}

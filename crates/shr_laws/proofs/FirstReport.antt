@@ -1,3 +1,4 @@
+-- SPDX-License-Identifier: GPL-2.0-only
 -- The first whole report, of one put, as a value with its script.
 use Rattle.shr_laws.proofs.Common.{true, [], ◌∷◌, codes, List, None, Entry, Add, Registered, Answered, Script, PlaceEnd, fresh, Report}
 use Rattle.shr_base.specs.declared.replies.Reply.TheVariants as reply

@@ -1,3 +1,4 @@
+-- SPDX-License-Identifier: GPL-2.0-only
 -- The second whole report is done in the use of its id, and reports of which no order is: a scan behind the drain, and an
 -- object that stays on the list of an id that came to be idle.
 use Rattle.shr_laws.proofs.Common.{◌≡◌, ℕ, zero, suc, ◌<◌, List, [], ◌∷◌, take, length, Some, None, Contains, refl, codes, true, false, arith, sym, ap, subst, ◌∙◌, ⊎_elim, dite, ℕ_discrete, Entry, Add, Scan, Drained, PoolEntry, Registered, Unregistered, Idle, Plain, Place, Serial, Has_from_Contains, Report, journals_of, entry_by, Told, entry, lookup, turn, count, entries, lookups, turns, looked_by, IsBy, IsInOneOrder, HasAt, IsOfUse, IsDrainedEntry, EndsUse, IsEntryInUse, IsWhileDying, IsWhileEmpty}

@@ -1,3 +1,4 @@
+-- SPDX-License-Identifier: GPL-2.0-only
 -- The law on isolations, by a report that meets it and changes that break a sentence.
 use Rattle.shr_laws.proofs.Common.{◌≡◌, ℕ, zero, suc, Bool, true, false, List, [], ◌∷◌, codes, Some, None, refl, arith, ap, PlaceEnd, Entry, Add, Scan, Plain, Clock, Place, Answered, IsolateEnd, Command, Put, Script, Isolation, Report, entry_by, IsReply, IsOfPass, IsOfIsolation, isolations_told, AreIsolationsLawful, Isolate, EachIsolation, isolations_by}
 use Rattle.shr_base.specs.declared.replies.IsolateEnd.TheVariants as isolate

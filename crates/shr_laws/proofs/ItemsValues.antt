@@ -1,3 +1,4 @@
+-- SPDX-License-Identifier: GPL-2.0-only
 -- The objects of a list at rest, at values worked out by hand.
 use Rattle.shr_laws.proofs.Common.{◌≡◌, ℕ, [], ◌∷◌, false, Option, Some, None, refl, Object}
 use Rattle.slab.specs.Slab.{Slab}

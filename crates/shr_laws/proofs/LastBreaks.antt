@@ -1,3 +1,4 @@
+-- SPDX-License-Identifier: GPL-2.0-only
 -- Changes that break what the others leave: of the journals' tables, of charges and of freshness.
 use Rattle.shr_laws.proofs.Common.{◌≡◌, ◌<◌, ◌≤◌, ◌≢◌, ℕ, zero, suc, true, [], ◌∷◌, codes, Some, refl, IsSomeAnd, arith, Add, Registered, Unregistered, Idle, Begin, Done, Report, serial_of, command_at, reply_at, AreRepliesLawful, IsLawfulWalk, AreLookupsLawful, AreChargesLawful, IsDeferredLawful, IsOffline, is_done_by, HasCause, AreCausesLawful, IsBagLawful, MayHaveSpliced}
 use Rattle.shr_base.specs.declared.replies.Reply.TheVariants as reply

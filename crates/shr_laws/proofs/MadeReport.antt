@@ -1,3 +1,4 @@
+-- SPDX-License-Identifier: GPL-2.0-only
 -- A report of a group that is made during the run: it is asked for before it is there, made, asked to be made again, given an
 -- object, and then in the way of its parent's offlining.
 use Rattle.shr_laws.proofs.Common.{false, true, List, [], ◌∷◌, codes, None, Place, Entry, Add, Registered, Made, Answered, Command, Put, Offline, MkGroup, Script, fresh, Report, at}

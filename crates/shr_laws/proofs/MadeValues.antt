@@ -1,3 +1,4 @@
+-- SPDX-License-Identifier: GPL-2.0-only
 -- What the laws say of groups that are made during a run: by a report of one, and by changes that break them.
 use Rattle.shr_laws.proofs.Common.{◌≡◌, ◌<◌, ℕ, zero, suc, true, false, List, [], ◌∷◌, codes, Some, None, Contains, refl, IsSomeAnd, arith, inl, inr, ap, subst, Closed, Begin, Done, Made, Serial, Answered, Shrink, Balance, Offline, MkGroup, IsAtOrAbove, Has, Has_from_Contains, Report, serial_of, parents_of, journals_of, reply_at, AreChargesLawful, AreCausesLawful, AreJournalsLawful, IsFreePut, IsReply, HasCause, script_hierarchy, is_made_by, IsMadeOnce, made_shown, shows_made, group_met}
 use Rattle.shr_base.specs.declared.replies.Reply.TheVariants as reply

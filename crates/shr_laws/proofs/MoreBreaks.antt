@@ -1,3 +1,4 @@
+-- SPDX-License-Identifier: GPL-2.0-only
 -- Changes of further reports, each of which breaks a sentence.
 use Rattle.shr_laws.proofs.Common.{◌≡◌, ◌<◌, ◌≤◌, ℕ, [], ◌∷◌, Option, Some, None, refl, arith, ap, UseStep, Clock, PassRecord, FollowsArithmetic, scans_by, serial_of, journals_of, zero, suc, IsSomeAnd, Closed, Drained, Registered, Unregistered, Begin, Done, Report, reply_at, IsMadeBy, AreJournalsLawful, AreRepliesLawful, AreScansOf, IsStopped, IsLawfulWalk, AreWalksLawful, IsDeferredLawful, IsReply, HasCause, AreCausesLawful, nat_abs, option_map_or, IsOver, IsSpent, Get}
 use Rattle.shr_base.specs.declared.replies.HalfWhy.TheVariants as why

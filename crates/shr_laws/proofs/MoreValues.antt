@@ -1,3 +1,4 @@
+-- SPDX-License-Identifier: GPL-2.0-only
 -- Sentences on walks, rounds, offlining and unregistering at the values of further reports.
 use Rattle.shr_laws.proofs.Common.{◌≡◌, ℕ, zero, suc, ◌+◌, false, cond, [], ◌∷◌, map, replicate, Some, slice_get, refl, arith, ap, subst, IsAtOrAbove, Idle, Entry, Drained, Attempt, PassRecord, pass_of, scans_by, ◌==◌, fold, count_by, ops_by, is_refused, limit_of, uses_at, job_of, serial_of, parents_of, items_left, walks_by, IsLawfulWalk, AreScansOf, IsStopped, freed_below, listed_below, IsMadeBy, objects_moved_from, drained_of, HasCause, IsFoundRight, over_at, IsLastOfCut, AreWalksOf, balance_reply, Get}
 use Rattle.shr_model.specs.Scan.{scan_from}

@@ -1,3 +1,4 @@
+-- SPDX-License-Identifier: GPL-2.0-only
 -- Changes of the second whole report, each of which breaks a sentence.
 use Rattle.shr_laws.proofs.Common.{◌≡◌, ℕ, zero, suc, true, false, List, [], ◌∷◌, codes, Some, None, refl, arith, Object, Plain, Entry, Add, Scan, Registered, Begin, Reply, Answered, Walked, WalkRecord, fresh, Report, Offline, command_at, serial_of, AreRepliesLawful, AreJournalsLawful, AreWalksLawful, AreLookupsLawful, AreChargesLawful, IsDeferredLawful, AreBitsLawful, AreCausesLawful, IsBagLawful}
 use Rattle.shr_base.specs.declared.replies.Reply.TheVariants as reply

@@ -1,3 +1,4 @@
+-- SPDX-License-Identifier: GPL-2.0-only
 -- The first whole report has its numbers; for each kind of data a value that has them, and one that doesn't.
 use Rattle.shr_laws.proofs.Common.{ℕ, pos, negsuc, ◌-◌, ◌<◌, ◌^◌, true, false, List, [], ◌∷◌, length, codes, Some, arith, refl, none-some, Serial, Place, At, Clock, WorkerPart, Attempt, Carry, Ending, PassRecord, Isolation, PlainAnswer, PlainTry, PlainWalk, WalkRecord, fresh, IsAnsweredNumbered, IsAttemptNumbered, IsSeenNumbered, IsWalkNumbered, IsCarryNumbered, IsPartNumbered, IsEntryNumbered, IsObjectNumbered, IsListNumbered, IsMapNumbered, IsAmountNumbered, IsUseNumbered, HasNumbers, ArePartsWell, IsTryNumbered, IsPlainNumbered, IsIsolationNumbered, IsPlainEntryNumbered, AreUnitsNumbered, IsNumbered, IsSerialNumbered, IsAtNumbered, IsSpentNumbered, IsWhyNumbered, IsReplyNumbered, IsFindNumbered, IsEndingNumbered, IsPassNumbered, IsOutcomeNumbered, IsWalkedNumbered, IsPlainAnswerNumbered}
 use Rattle.std.proofs.lemmas.Int.{ints}

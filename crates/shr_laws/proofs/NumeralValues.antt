@@ -1,3 +1,4 @@
+-- SPDX-License-Identifier: GPL-2.0-only
 -- Numbers as they are printed.
 use Rattle.shr_laws.proofs.Common.{◌≡◌, refl, codes, negsuc, signed_numeral, hex, bit_line}
 use Rattle.shr_laws.specs.Lines.{numeral, hex_digits}

@@ -1,3 +1,4 @@
+-- SPDX-License-Identifier: GPL-2.0-only
 -- A child group goes offline, and its two objects move to its parent.
 use Rattle.shr_laws.proofs.Common.{ℕ, true, false, [], ◌∷◌, codes, Some, None, Plain, Registered, Begin, Done, CacheDecl, Script, PlaceEnd, Report, Place, serial_of, at, Get}
 use Rattle.shr_base.specs.declared.journals.Entry.TheVariants as entry

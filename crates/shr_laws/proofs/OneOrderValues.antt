@@ -1,3 +1,4 @@
+-- SPDX-License-Identifier: GPL-2.0-only
 -- What the second whole report tells is in one order, and reports that are in none.
 use Rattle.shr_laws.proofs.Common.{◌≡◌, ◌≢◌, ℕ, zero, suc, ◌+◌, ◌*◌, ◌<◌, ◌≤◌, List, [], ◌∷◌, length, slice_get, Some, Contains, refl, codes, true, false, IsSomeAnd, arith, sym, ap, subst, ◌∙◌, ⊎_elim, dite, ℕ_discrete, Entry, Add, Look, Drained, PoolEntry, Registered, Unregistered, Idle, At, Place, Serial, Answered, WalkRecord, Has_from_Contains, Report, IsMadeBy, serial_of, reply_at, journals_of, entry_by, Told, entry, lookup, turn, count, entries, lookups, turns, looked_by, IsBy, IsInOneOrder, Counting, ToldMeasure, countings_of, ReportTells, TurnTells, TellsOf}
 use Rattle.shr_base.specs.declared.replies.Reply.TheVariants as reply

@@ -1,3 +1,4 @@
+-- SPDX-License-Identifier: GPL-2.0-only
 -- A put is refused after thirteen rounds that free nothing.
 use Rattle.shr_laws.proofs.Common.{ℕ, true, false, [], ◌∷◌, codes, Some, None, Clock, Registered, CacheDecl, Script, WalkRecord, PlaceEnd, Report, Place, serial_of, at, SetPin}
 use Rattle.shr_base.specs.declared.journals.Entry.TheVariants as entry

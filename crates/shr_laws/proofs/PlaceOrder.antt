@@ -1,3 +1,4 @@
+-- SPDX-License-Identifier: GPL-2.0-only
 -- The order of places by id, node and group.
 use Rattle.shr_laws.proofs.Common.{◌≡◌, ◌<◌, ◌⊎◌, inl, inr, sym, subst, arith, Place, IsPlaceBefore, IsPlaceUpTo, cases_order, place_number}
 

@@ -1,3 +1,4 @@
+-- SPDX-License-Identifier: GPL-2.0-only
 -- Changes of the report of two pools, each of which breaks a sentence of the law on pools.
 use Rattle.shr_laws.proofs.Common.{◌≡◌, ℕ, ◌<◌, ◌≤◌, ◌^◌, true, false, List, [], ◌∷◌, Some, None, refl, arith, ap, PlaceAmount, UnitsEnd, Place, Answered, Balance, Release, PlainTry, Empty, Ran, PlainWalk, Report, ArePoolsLawful, Skip, PlainJob}
 use Rattle.shr_base.specs.declared.journals.PlainEntry.TheVariants as units

@@ -1,3 +1,4 @@
+-- SPDX-License-Identifier: GPL-2.0-only
 -- The answers of commands on pools, and what a pool's worn journal asks: the report of two pools has what the
 -- law on replies asks, and changes of it break a sentence of that law or of the law on causes.
 use Rattle.shr_laws.proofs.Common.{◌≡◌, ℕ, zero, suc, ◌^◌, false, replicate, List, [], ◌∷◌, length, codes, Some, refl, arith, ap, PlainEntry, Place, Answered, Balance, Release, PlainTry, Empty, Ran, Report, parents_of, journals_of, serial_of, cited_at, at, AreCausesLawful, AreRepliesLawful, IsReply, id_found, IsPoolSpent, free_at}

@@ -1,3 +1,4 @@
+-- SPDX-License-Identifier: GPL-2.0-only
 -- A report with a pool of units, a walk of the pools and an isolation is well formed, and changes of it
 -- in one place are not.
 use Rattle.shr_laws.proofs.Common.{◌≡◌, ℕ, ◌<◌, ◌≤◌, true, false, List, [], ◌∷◌, ◌++◌, length, codes, slice_get, Some, refl, zero, suc, arith, inl, inr, ap, subst, length-append, none-some, same_Some, PlaceAmount, UnitsEnd, WorkerPart, PlainEntry, Place, Serial, Isolation, PlainWalk, Report, IsPartWell, IsWellFormed}

@@ -1,3 +1,4 @@
+-- SPDX-License-Identifier: GPL-2.0-only
 -- The report of two pools has what the law on pools asks of it.
 use Rattle.shr_laws.proofs.Common.{◌≡◌, ◌⊎◌, ℕ, zero, suc, ◌+◌, ◌<◌, Bool, true, false, cond, filter_map, sum_by, option_and_then, List, [], ◌∷◌, ◌++◌, Option, Some, None, slice_get, refl, AllByRecursion, arith, sym, ap, subst, ◌∙◌, inl, inr, cases_Bool, UnitsEnd, PlainEntry, Place, PoolDecl, PassRecord, PlainTry, Ran, PlainWalk, is_place, deferred_word, is_place_same, reply_at, serial_of, at, units_entries, units_journal, units_cited_at, plain_of, pass_at, AreNotFalling, plain_versions, ArePoolsLawful, option_map, option_to_list, pool_place, EachUnits, EachPlain, EachTry, pass_in, try_at, IsPlainCount, IsKind, IsLastTry, IsPlainLawful, IsPlainPass, version_in, reclaims_by}
 use Rattle.shr_base.specs.declared.replies.Reply.TheVariants as reply

@@ -1,3 +1,4 @@
+-- SPDX-License-Identifier: GPL-2.0-only
 -- A report of two pools of units, one of them flat, as a value with its script.
 use Rattle.shr_laws.proofs.Common.{true, false, List, [], ◌∷◌, codes, None, UnitsEnd, WorkerPart, PlainEntry, Place, Answered, Command, Balance, Release, PoolDecl, Script, Through, PassRecord, PlainTry, Empty, Ran, PlainWalk, Report, Grab}
 use Rattle.shr_base.specs.declared.journals.PlainEntry.TheVariants as units

@@ -1,3 +1,4 @@
+-- SPDX-License-Identifier: GPL-2.0-only
 -- Which puts must be added, by values that meet it and values that don't.
 use Rattle.shr_laws.proofs.Common.{◌≡◌, ℕ, zero, suc, ◌<◌, [], ◌∷◌, List, codes, slice_get, Some, None, refl, arith, inl, inr, sym, ap, subst, Registered, Unregistered, Begin, Done, Answered, Put, Offline, Script, Report, IsOffline, commands_of, serial_of, IsFreePut, MayHaveBegun, IsOnlyPut, IsUnlimited, StaysOn, StaysOnline, IsAddedOrSpent, AreFreePutsAdded, IsEachAdded, DoPutsAddUp}
 use Rattle.shr_base.specs.declared.replies.Reply.TheVariants as reply

@@ -1,3 +1,4 @@
+-- SPDX-License-Identifier: GPL-2.0-only
 -- A report that says nothing of isolations has what the law on isolations asks of it.
 use Rattle.shr_laws.proofs.Common.{◌≡◌, ℕ, [], sym, ap, ◌∙◌, slice_get, Some, filter, none-some, Script, Isolation, is_serial, Report, isolations_of, EachAnswer, EachEntry, IsOfIsolation, isolations_told, AreIsolationsLawful, isolation_at}
 

@@ -1,3 +1,4 @@
+-- SPDX-License-Identifier: GPL-2.0-only
 -- A part without walks of the pools or isolations, and a report without pools.
 use Rattle.shr_laws.proofs.Common.{◌≡◌, ℕ, List, [], length, sym, subst, arith, AllByRecursion, AllAdjacentBelow, Serial, AreOfCommands}
 

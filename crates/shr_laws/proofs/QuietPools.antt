@@ -1,3 +1,4 @@
+-- SPDX-License-Identifier: GPL-2.0-only
 -- A report that says nothing of pools has what the law on pools asks of it, for a script without pools.
 use Rattle.shr_laws.proofs.Common.{◌≡◌, ℕ, ◌<◌, List, [], map, flat_map, sym, refl, ap, subst, ◌∙◌, arith, slice_get, Some, find, filter, filter_map, sum_by, AllByRecursion, none-some, PlaceAmount, UnitsEnd, PlainEntry, At, Place, Reply, Command, PoolDecl, Script, PassRecord, PlainWalk, is_serial, deferred_word, is_place, Report, serial_of, EachAnswer, plain_versions, ArePoolsLawful, units_entries, units_journal, units_cited_at, plain_of, plain_at, pass_at, AreNotFalling, amount_in, AreUnitsRight, IsPoolReply, all_plain, plain_job_of, plain_due, units_place}
 

@@ -1,3 +1,4 @@
+-- SPDX-License-Identifier: GPL-2.0-only
 -- A report of a script without a sweep has what the law on sweeps asks of it. What answers to a sweep are, and how many.
 use Rattle.shr_laws.proofs.Common.{◌≡◌, ℕ, ◌+◌, ◌≤◌, length, refl, sym, ap, ◌∙◌, arith, slice_get, Option, Some, None, none-some, Answered, Reply, Script, Sweep, Report, commands_of, answers_of, answer_at, cited_by, sweep_serial, IsSweepLawful, slice_get_within, sweeps_in, sweeps_of, IsSweepReply}
 use Rattle.shr_base.specs.declared.replies.Reply.TheVariants as reply

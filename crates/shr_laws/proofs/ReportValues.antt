@@ -1,3 +1,4 @@
+-- SPDX-License-Identifier: GPL-2.0-only
 -- The parts of a report at the values of the second whole one.
 use Rattle.shr_laws.proofs.Common.{◌≡◌, pos, ◌-ℤ◌, true, false, [], ◌∷◌, ◌++◌, map, codes, Some, refl, fresh, usage_after, ops_by, jobs_of, job_of, versions_at, given_at, parents_of, command_at, reply_at, walks_by, items_before, items_left, uses_at, cited_at, at, cache_of, was_cleared, shrink_reply, found_numbers, tried_numbers, charged, freed_below, listed_below, is_set_at, ids_seen, decls_on}
 use Rattle.shr_base.specs.declared.replies.Reply.TheVariants as reply

@@ -1,3 +1,4 @@
+-- SPDX-License-Identifier: GPL-2.0-only
 -- Two walks of a cache of floor 1: one skips, one scans and frees both.
 use Rattle.shr_laws.proofs.Common.{ℕ, true, false, [], ◌∷◌, codes, Some, None, Plain, Registered, CacheDecl, Script, WalkRecord, PlaceEnd, Report, Place, serial_of, at}
 use Rattle.shr_base.specs.declared.journals.Entry.TheVariants as entry

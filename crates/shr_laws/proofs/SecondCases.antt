@@ -1,3 +1,4 @@
+-- SPDX-License-Identifier: GPL-2.0-only
 -- Facts of each part of the second whole report, by cases.
 use Rattle.shr_laws.proofs.Common.{ℕ, zero, suc, replicate, List, [], ◌∷◌, refl, AllByRecursion, Serial, Place, Entry, Answered, Command, WalkRecord, PlaceEnd, journals_of, EachAnswer, EachEntry, EachWalk}
 use Rattle.shr_laws.proofs.SecondReport.{kept, by, place, commands, answers, entries, first_walk, second_walk, script, report}

@@ -1,3 +1,4 @@
+-- SPDX-License-Identifier: GPL-2.0-only
 -- The second whole report is lawful for its script.
 use Rattle.shr_laws.proofs.Common.{◌≡◌, ◌⊎◌, ℕ, zero, suc, ◌+◌, ◌<◌, ◌≤◌, Bool, true, false, cond, ◌&&◌, nat_lt, count_by, flat_map, List, [], ◌∷◌, ◌++◌, length, take, Some, None, slice_get, refl, Contains, arith, sym, ap, subst, inl, inr, cases_Bool, Place, Attempt, PassRecord, at_group, is_place, parent_of, is_closed, moved_in, items_given, MayStand, pass_of, AllByRecursion, cons_option, map, option_and_then, is_place_same, UseStep, ops_by, versions_at, ◌==◌, if◌then◌else◌, filter_map, sum_by, Registered, Found, decl_named, deferred_word, lookups_at, IsFoundRight, AreLookupsLawful, IsDeferredLawful, AreBitsLawful, pos, ◌-ℤ◌, IfSome, IsSomeAnd, ups, usage_after, IsNextUse, IsChargeHistory, AreTakenBack, is_put, command_at, reply_at, IsDownBetween, charged, freed_below, listed_below, AreChargesLawful, ◌||◌, list_any, PoolEntry, Answered, WalkRecord, At, PlainWalk, answers_of, pool_seen, pool_made, tree_seen, of_answer, shown_by, is_begin_at, is_done_at, AreBelow, AreCausesLawful, IsLawful, IsOfIsolation, isolations_told, AreIsolationsLawful, AreNotFalling, IsOfPass, FillsPlace, was_cleared, uses_at, walks_of, cited_by, parents_of, serial_of, cited_at, journals_of, items_left, at, AreRepliesLawful, AreJournalsLawful, IsLawfulWalk, AreWalksLawful, IsBagLawful, ArePoolsLawful, plain_at, units_cited_at, Count, counts_of, is_some, number_of, is_held, attempt_at, passes_at, EachAttempt, walk_cited}
 use Rattle.shr_model.specs.Groups.{path_within, preorder_within}

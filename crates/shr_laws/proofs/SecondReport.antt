@@ -1,3 +1,4 @@
+-- SPDX-License-Identifier: GPL-2.0-only
 -- The second whole report, of a put, a del of the same object and two walks, as a value with its
 -- script.
 use Rattle.shr_laws.proofs.Common.{ℕ, pos, Bool, true, false, List, [], ◌∷◌, codes, Some, None, Serial, Place, Plain, Entry, Add, Drop, Registered, UseStep, Reply, Answered, Command, Put, On, Shrink, Script, CacheDecl, Attempt, Walked, WalkRecord, WorkerPart, Report, Del}

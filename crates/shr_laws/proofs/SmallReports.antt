@@ -1,3 +1,4 @@
+-- SPDX-License-Identifier: GPL-2.0-only
 -- What holds of each command, entry and group of a small report holds of all of it: of a report of one worker, of one list, or
 -- of one registration.
 use Rattle.shr_laws.proofs.Common.{◌≡◌, ℕ, zero, suc, ◌+◌, ◌<◌, ◌≤◌, true, false, cond, ◌&&◌, nat_lt, fold, count_by, List, [], ◌∷◌, ◌++◌, Option, None, Some, find, option_and_then, slice_get, refl, arith, sym, ap, subst, ◌∙◌, none-some, cases_Bool, and_parts, inl, inr, AllByRecursion, Place, Serial, Entry, Command, Answered, Carry, PlaceEnd, Script, UseStep, Registered, Report, is_place, is_place_same, is_child, is_refused, IsBornAt, IsPoolJournal, IsNextPool, last_number, AreNotFalling, journal_of, journals_of, commands_of, answers_of, carries_of, serial_of, limit_of, lookups_at, found_numbers, tried_numbers, EachAnswer, EachEntry, ⊤, ◌==◌, if◌then◌else◌}

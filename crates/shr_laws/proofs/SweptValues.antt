@@ -1,3 +1,4 @@
+-- SPDX-License-Identifier: GPL-2.0-only
 -- The law on a sweep, by a report that meets it and changes that break a sentence.
 use Rattle.shr_laws.proofs.Common.{◌≡◌, ℕ, zero, suc, ◌<◌, ◌≤◌, true, false, List, [], ◌∷◌, Some, refl, IsSomeAnd, arith, subst, WorkerPart, Answered, Script, Sweep, Walked, WalkRecord, Report, answer_at, reply_at, AreRepliesLawful, sweep_serial, IsSweepLawful, sweep_walks, times_swept, IsSweptOut, IsSwept, IsSweepRight}
 use Rattle.shr_base.specs.declared.replies.Reply.TheVariants as reply

@@ -1,3 +1,4 @@
+-- SPDX-License-Identifier: GPL-2.0-only
 -- Reports whose deferred work is in one order, and two in which it is in none.
 use Rattle.shr_laws.proofs.Common.{◌≡◌, ◌⊎◌, ℕ, zero, suc, cond, List, [], ◌∷◌, ◌++◌, length, map, flat_map, slice_get, Some, refl, range_with_len, arith, sym, ap, subst, ◌∙◌, inl, inr, ⊎_elim, dite, ℕ_discrete, PlaceAmount, Place, Answered, Command, Offline, Script, Carry, Through, WalkRecord, Report, printed_at, serial_of, answers_of, IsThere, eq-eqb, ne_eqb, amount_of}
 use Rattle.shr_base.specs.declared.replies.Reply.TheVariants as reply

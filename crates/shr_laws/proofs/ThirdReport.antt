@@ -1,3 +1,4 @@
+-- SPDX-License-Identifier: GPL-2.0-only
 -- A report of two workers: three puts under a limit, a walk that defers, an offlining that moves
 -- and carries, an unregistering that drains; the other worker puts in the parent.
 use Rattle.shr_laws.proofs.Common.{ℕ, pos, Bool, true, false, List, [], ◌∷◌, codes, Some, None, Place, Serial, Entry, Registered, Unregistered, Idle, Begin, Done, UseStep, Answered, Script, Carry, Through, PassRecord, Walked, WalkRecord, Report, serial_of, at}

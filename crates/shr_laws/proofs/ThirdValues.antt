@@ -1,3 +1,4 @@
+-- SPDX-License-Identifier: GPL-2.0-only
 -- What the laws compute of the third report: each number is that of its sentence.
 use Rattle.shr_laws.proofs.Common.{◌≡◌, pos, ◌-ℤ◌, true, false, [], ◌∷◌, ◌++◌, map, codes, Some, None, refl, arith, usage_after, ops_by, jobs_of, deferred_word, given_at, FollowsArithmetic, scans_by, job_of, parents_of, limit_of, serial_of, command_at, reply_at, journals_of, items_before, items_left, walks_by, all_walks, uses_at, HasCause, AreScansOf, IsStopped, cache_of, shrink_reply, found_numbers, tried_numbers, IsFoundRight, charged, freed_below, listed_below, printed_at, objects_moved_from, drained_of, taken_at, later_of, places_of, all_carries, IsCarryRight, became_idle}
 use Rattle.shr_base.specs.declared.replies.Reply.TheVariants as reply

@@ -1,3 +1,4 @@
+-- SPDX-License-Identifier: GPL-2.0-only
 -- The second whole report's put tried once, and reports of a run, changed in one place, whose put's charges are not those of tries.
 use Rattle.shr_laws.proofs.Common.{◌≡◌, ℕ, suc, zero, ◌==◌, ◌||◌, Bool, true, false, cond, List, [], ◌∷◌, ◌++◌, map, filter, length, refl, AllByRecursion, arith, ap, sym, ◌∙◌, ⊎_elim, length-append, cases_Bool, UseStep, Put, ops_by, is_refused, limit_of, uses_at, parents_of, at, eqb-true}
 use Rattle.shr_base.specs.declared.replies.Reply.TheVariants as reply

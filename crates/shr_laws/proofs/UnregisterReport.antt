@@ -1,3 +1,4 @@
+-- SPDX-License-Identifier: GPL-2.0-only
 -- A cache is unregistered with three objects, and registered again.
 use Rattle.shr_laws.proofs.Common.{ℕ, true, false, [], ◌∷◌, codes, Some, None, Plain, Registered, Unregistered, Idle, CacheDecl, Script, PlaceEnd, Report, Place, serial_of, at}
 use Rattle.shr_base.specs.declared.journals.Entry.TheVariants as entry

@@ -1,3 +1,4 @@
+-- SPDX-License-Identifier: GPL-2.0-only
 -- The first whole report is well formed, and changes of it in one place are not.
 use Rattle.shr_laws.proofs.Common.{◌≡◌, ℕ, ◌<◌, ◌≤◌, ◌^◌, true, false, List, [], ◌∷◌, ◌++◌, length, map, codes, slice_get, Some, refl, AllAdjacentBelow, zero, suc, arith, ap, inl, inr, ⊎_elim, subst, length-append, none-some, same_Some, MapEnd, PlaceAmount, PlaceEnd, WorkerPart, Entry, Look, PoolEntry, Registered, Unregistered, Idle, Begin, Made, Place, Serial, Attempt, Carry, Isolation, MapSeen, PlainWalk, Walked, WalkRecord, fresh, Report, AreOfCommands, IsPlaceBefore, IsPlaceUpTo, IsPartWell, map_units, bit_places, IsWellFormed, IsUseBefore}
 use Rattle.shr_base.specs.declared.replies.Reply.TheVariants as reply

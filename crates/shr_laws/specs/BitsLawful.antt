@@ -1,3 +1,4 @@
+-- SPDX-License-Identifier: GPL-2.0-only
 -- Bits: none is missing at the end.
 use Rattle.std.specs.Prelude.{◌≡◌, ◌≢◌, ℕ, Bool, true, false, ◌&&◌, ◌==◌, find, [], Option, Some, None}
 use Rattle.shr_base.specs.declared.places.Place.{Place}

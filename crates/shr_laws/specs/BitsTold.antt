@@ -1,3 +1,4 @@
+-- SPDX-License-Identifier: GPL-2.0-only
 -- The bits of maps: which there may be, and which a worker must see.
 use Rattle.std.specs.Prelude.{◌≡◌, ◌⊎◌, ℕ, ◌<◌, nat_lt, Bool, true, false, not, ◌||◌, ◌==◌, List, map, filter, flat_map, length, slice_get, Some, Contains}
 use Rattle.std.specs.List.{AllByRecursion, list_any}

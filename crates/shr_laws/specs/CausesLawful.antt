@@ -1,3 +1,4 @@
+-- SPDX-License-Identifier: GPL-2.0-only
 -- Each answer, attempt and entry has its cause in the report.
 use Rattle.std.specs.Prelude.{◌≡◌, ℕ, ◌≤◌, length, slice_get, Some}
 use Rattle.std.specs.Option.{IsSomeAnd}

@@ -1,3 +1,4 @@
+-- SPDX-License-Identifier: GPL-2.0-only
 -- Charges: the history of each group, what each command charged in it, and what is left.
 use Rattle.std.specs.Prelude.{◌≡◌, ℕ, pos, ◌-ℤ◌, ◌<◌, ◌≤◌, Bool, true, false, cond, List, length, map, sum_by, slice_get, Option, Some, None, IfSome}
 use Rattle.shr_base.specs.declared.places.Serial.{Serial}

@@ -1,3 +1,4 @@
+-- SPDX-License-Identifier: GPL-2.0-only
 -- Which lists a worker's commands act on, in their order.
 use Rattle.std.specs.Prelude.{◌≡◌, ℕ, ◌<◌, Some, option_and_then}
 use Rattle.shr_base.specs.declared.places.Place.{Place}

@@ -1,3 +1,4 @@
+-- SPDX-License-Identifier: GPL-2.0-only
 -- Which walks of a command ended for want of memory.
 use Rattle.std.specs.Prelude.{◌≡◌, true, false, AllPairs, ⊤}
 use Rattle.std.specs.List.{list_any}

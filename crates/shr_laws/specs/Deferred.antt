@@ -1,3 +1,4 @@
+-- SPDX-License-Identifier: GPL-2.0-only
 -- Deferred words: each is what passes and carries gave less what they took.
 use Rattle.std.specs.Prelude.{◌≡◌, ℕ, ◌<◌, find, slice_get, Option, Some, None, ⊤}
 use Rattle.std.specs.List.{AllByRecursion}

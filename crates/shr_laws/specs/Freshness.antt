@@ -1,3 +1,4 @@
+-- SPDX-License-Identifier: GPL-2.0-only
 -- Freshness: what an answer knew isn't older than what its worker had known before.
 use Rattle.std.specs.Prelude.{◌≡◌, ℕ, ◌<◌, ◌≤◌, Bool, true, false, cond, ◌||◌, List, [], ◌∷◌, ◌++◌, length, flat_map, slice_get, Option, Some, None, option_map, option_and_then, option_to_list, ⊤}
 use Rattle.std.specs.List.{AllByRecursion, list_any}

@@ -1,3 +1,4 @@
+-- SPDX-License-Identifier: GPL-2.0-only
 -- Isolations: each visited its list once for each scan that it made, and told what it did.
 use Rattle.std.specs.Prelude.{◌≡◌, ℕ, ◌-◌, ◌≤◌, true, ◌&&◌, ◌==◌, cond, List, [], ◌∷◌, filter, filter_map, slice_get, Option, Some, None, option_and_then, ⊤}
 use Rattle.std.specs.Option.{IsSomeAnd}

@@ -1,3 +1,4 @@
+-- SPDX-License-Identifier: GPL-2.0-only
 -- Journals: each is legal, they fit together, and what they leave is printed.
 use Rattle.std.specs.Prelude.{◌≡◌, ℕ, true, slice_get, Some, Contains}
 use Rattle.shr_base.specs.declared.places.Place.{Place}

@@ -1,3 +1,4 @@
+-- SPDX-License-Identifier: GPL-2.0-only
 -- When a report is lawful for a script.
 use Rattle.std.specs.Prelude.{◌≡◌, length}
 use Rattle.shr_base.specs.declared.scripts.Script.{Script}

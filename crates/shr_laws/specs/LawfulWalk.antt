@@ -1,3 +1,4 @@
+-- SPDX-License-Identifier: GPL-2.0-only
 -- A lawful walk, with its record.
 use Rattle.std.specs.Prelude.{◌≡◌, ◌≢◌, ℕ, ◌+◌, ◌-◌, ◌<◌, ◌≤◌, ◌↔◌, true, false, List, [], ◌∷◌, ◌++◌, length, map, take, sum_by, flat_map, slice_get, Option, Some, option_and_then, ⊤}
 use Rattle.std.specs.List.{AllByRecursion, range_with_len}

@@ -1,3 +1,4 @@
+-- SPDX-License-Identifier: GPL-2.0-only
 -- Registrations and lookups: each number of an id was drawn once, and what it met is what the
 -- pool's journal says.
 use Rattle.std.specs.Prelude.{◌≡◌, ℕ, ◌%◌, ◌≤◌, true, ◌==◌, nat_lt, if◌then◌else◌, List, [], ◌++◌, length, take, drop, filter, filter_map, flat_map, count_by, slice_get, Option, Some, None, option_and_then, is_some}

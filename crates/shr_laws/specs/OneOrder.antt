@@ -1,3 +1,4 @@
+-- SPDX-License-Identifier: GPL-2.0-only
 -- One order of all that the workers did at the table of the caches, as far as a report tells it.
 use Rattle.std.specs.Prelude.{◌≡◌, ◌≢◌, ℕ, ◌+◌, ◌<◌, ◌≤◌, true, List, [], ◌∷◌, ◌++◌, length, map, flat_map, take, slice_get, Option, Some, None, option_to_list, AllPairs, Contains}
 use Rattle.std.specs.Option.{IsSomeAnd}

@@ -1,3 +1,4 @@
+-- SPDX-License-Identifier: GPL-2.0-only
 -- A script and a report by their parts: commands and answers by their serials, journals by their
 -- places.
 use Rattle.std.specs.Prelude.{◌≡◌, ◌<◌, ℕ, ◌-◌, ◌==◌, nat_lt, Bool, false, List, [], ◌∷◌, length, map, find, filter, filter_map, flat_map, sum_by, slice_get, slice_index, Option, Some, None, option_and_then, option_map, cond}

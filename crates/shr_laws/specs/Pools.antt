@@ -1,3 +1,4 @@
+-- SPDX-License-Identifier: GPL-2.0-only
 -- Pools of units: each unit that was released was grabbed once, was reclaimed once, or is free.
 use Rattle.std.specs.Prelude.{◌≡◌, ℕ, ◌+◌, ◌<◌, ◌≤◌, ◌^◌, ◌&&◌, ◌==◌, true, false, cond, List, length, map, find, flat_map, filter_map, take, sum_by, slice_get, Option, Some, None, option_map, option_to_list, ⊤}
 use Rattle.std.specs.List.{AllByRecursion, enumerate_from}

@@ -1,3 +1,4 @@
+-- SPDX-License-Identifier: GPL-2.0-only
 -- Which puts must be answered Added, where there is memory and no counter is used up.
 use Rattle.std.specs.Prelude.{◌≡◌, ◌⊎◌, ℕ, ◌<◌, false, List, slice_get, Some, None, Contains}
 use Rattle.shr_base.specs.declared.journals.PoolEntry.TheVariants.{Unregistered}

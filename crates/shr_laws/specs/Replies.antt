@@ -1,3 +1,4 @@
+-- SPDX-License-Identifier: GPL-2.0-only
 -- Replies: each command has its answer, and so has a sweep, and each entry of a tenant its reply.
 use Rattle.std.specs.Prelude.{◌≡◌, ℕ, ◌+◌, ◌<◌, ◌∷◌, length, map, codes, Some}
 use Rattle.shr_base.specs.declared.places.Serial.{Serial}

@@ -1,3 +1,4 @@
+-- SPDX-License-Identifier: GPL-2.0-only
 -- The table of replies: which replies a command may have, which entry each cites, whether it stands
 -- with a cache that was found; and the cause of each reply in the report.
 use Rattle.std.specs.Prelude.{◌≡◌, ℕ, true, false, List, slice_get, Option, Some, None, option_map, ⊤, IsSomeAnd}

@@ -1,3 +1,4 @@
+-- SPDX-License-Identifier: GPL-2.0-only
 -- A sweep: together the workers walk each group on each node, each at most once.
 use Rattle.std.specs.Prelude.{◌≡◌, ℕ, ◌<◌, ◌≤◌, ◌&&◌, ◌==◌, List, length, count_by, flat_map, sum_by, Some, None, ⊤}
 use Rattle.std.specs.List.{AllByRecursion, range_with_len}

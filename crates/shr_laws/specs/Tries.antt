@@ -1,3 +1,4 @@
+-- SPDX-License-Identifier: GPL-2.0-only
 -- The tries of a put's charge. Each goes up from the put's group to the root, or to the first group that refuses it.
 use Rattle.std.specs.Prelude.{◌≡◌, ℕ, Bool, true, false, ◌==◌, cond, List, [], ◌∷◌, ◌++◌, map, filter, is_some, ⊤}
 use Rattle.shr_base.specs.declared.journals.UseStep.{UseStep}

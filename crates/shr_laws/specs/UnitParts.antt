@@ -1,3 +1,4 @@
+-- SPDX-License-Identifier: GPL-2.0-only
 -- The parts of a report that are of pools of units: journals by their places, walks of the pools by
 -- their workers.
 use Rattle.std.specs.Prelude.{◌≡◌, ℕ, ◌==◌, cond, List, [], ◌∷◌, find, filter, flat_map, filter_map, take, slice_get, Option, Some, None, option_and_then}

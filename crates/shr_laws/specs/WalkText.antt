@@ -1,3 +1,4 @@
+-- SPDX-License-Identifier: GPL-2.0-only
 -- The lines of walks, of walks of the pools, of carries and of isolations.
 use Rattle.std.specs.Prelude.{ℕ, ◌==◌, Bool, List, [], ◌∷◌, ◌++◌, flat_map, take_while, drop, codes}
 use Rattle.std.specs.List.{prefix_len}

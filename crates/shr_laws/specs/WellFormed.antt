@@ -1,3 +1,4 @@
+-- SPDX-License-Identifier: GPL-2.0-only
 -- When a report is well formed: only then does its text determine it.
 use Rattle.std.specs.Prelude.{◌≡◌, ◌≢◌, ◌⊎◌, ℕ, ◌-◌, ◌==◌, ◌<◌, ◌≤◌, ◌^◌, if◌then◌else◌, true, List, [], ◌∷◌, ◌++◌, length, map, flat_map, slice_get, Some, Contains}
 use Rattle.std.specs.List.{AllByRecursion, AllAdjacentBelow, range_with_len}

@@ -1,3 +1,4 @@
+// SPDX-License-Identifier: GPL-2.0-only
 //! The report.
 
 use shr_base::ends::{MapEnd, PlaceAmount, PlaceEnd, UnitsEnd, WorkerPart};
@@ -5,7 +6,7 @@ use shr_base::journals::{PoolEntry, TreeEntry, UseStep};
 use shr_base::log::Log;
 use shr_base::text::Text;
 
-/// All that a run reports. A part that is empty prints no line. Our own.
+/// All that a run reports. A part that is empty prints no line.
 #[derive(Drop)]
 pub struct Report {
     /// That of the script.

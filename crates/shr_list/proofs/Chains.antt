@@ -1,3 +1,4 @@
+-- SPDX-License-Identifier: GPL-2.0-only
 -- What a write to one node of a chain does.
 use Rattle.shr_list.proofs.Common.{◌≡◌, ◌≢◌, ℕ, Option, Some, None, is_some, refl, sym, ap, ◌∙◌, arith, inl, inr, option_map, cases_eq, Slab, get, slab_len, Object, Node, Chain, next_in, stop_after, prev_of, KeepsLinks, KeepsOtherObjects, KeepsObjects, SetsObject, cond, with_value, Updates, prev_in, SetsNext, SetsPrev}
 use Rattle.std.proofs.lemmas.List.Sums.{sum_by-set}

@@ -1,3 +1,4 @@
+-- SPDX-License-Identifier: GPL-2.0-only
 -- A loop that counts what a scan would free: it goes over the objects as they stand.
 use Rattle.shr_list.proofs.Common.{◌≡◌, ℕ, zero, suc, ◌+◌, ◌-◌, ◌<◌, List, [], ◌∷◌, ◌++◌, length, drop, refl, sym, ap, ◌∙◌, arith, append_assoc, length-append, get_or, min, append-nil, drop_all, AllByRecursion, Object, Policy, unmarked_object, Removed, Rotate, Skip, Stop, Scanned, case_of, scan_from, scan_spent, scan_none, scan_removed, scan_skipped, scan_rotated, scan_rotated_last, scan_stopped, add-one, drop-cons, nil_from_length, freed_alike, freed_each, rotated_then_removed}
 

@@ -1,3 +1,4 @@
+-- SPDX-License-Identifier: GPL-2.0-only
 -- A chain whose nodes are taken away from the head on, while their links stay.
 use Rattle.shr_list.proofs.Common.{◌≡◌, ◌≢◌, ℕ, List, [], ◌∷◌, ◌++◌, Option, Some, None, refl, ap, subst, ◌∙◌, option_map, AllByRecursion, Slab, get, slab_len, Object, Node, Chain, IsOff, Keyed, next_in, stop_after, IsPath, stops_of, IsLinked}
 use Rattle.shr_list.proofs.Linked.{Names}

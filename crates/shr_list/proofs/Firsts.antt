@@ -1,3 +1,4 @@
+-- SPDX-License-Identifier: GPL-2.0-only
 -- What a search by index says.
 use Rattle.shr_list.proofs.Common.{◌≡◌, ℕ, Bool, true, List, [], ◌∷◌, Option, Some, None, sym, ap, ◌∙◌, is_some, get_or, list_any, find, Object, is_some_find, position, find_at, IsFirstAt_of_position, none_of_position}
 

@@ -1,3 +1,4 @@
+-- SPDX-License-Identifier: GPL-2.0-only
 -- What an index finds, over changes of its prints and of its clashes.
 use Rattle.shr_list.proofs.Common.{◌≡◌, ◌≢◌, ◌⊎◌, Added, New, Known, Crowded, ℕ, true, ◌==◌, [], Option, Some, None, refl, sym, ap, subst, ◌∙◌, inl, inr, eqb-true, cases_Bool, cases_eq, IsSome, bytes_eq, option_map, if◌then◌else◌, Result, Ok, Err, OnErr, bytes_decides, nat_eq, UpdatesBy, ne_eqb, Names, found_clash, AddsClash, IsSameClashes, Name, is_same, print_of, entry_at, PutsNode, KeepsFound, GainsName, TurnsName, and_true, eq-eqb, PutsClash, owned, Owns, NodesByName, FitsFound}
 

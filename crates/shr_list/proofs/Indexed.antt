@@ -1,3 +1,4 @@
+-- SPDX-License-Identifier: GPL-2.0-only
 -- Look-ups by birth group and key, and the index over the changes of a list.
 use Rattle.shr_list.proofs.Common.{◌≡◌, ◌≢◌, ℕ, true, false, ◌==◌, List, [], ◌∷◌, ◌++◌, Option, Some, None, refl, sym, ap, subst, ◌∙◌, inl, inr, map-append, eqb-true, cases_Bool, IsSome, is_some, bytes_eq, if◌then◌else◌, bytes_decides, find, list_any, Object, is_named, Names, Keyed, objects_of, key_named, IsOff, IsApart, Name, name_by, name_in, names_of, is_same, in_nodes, PutsNode, KeepsFound, GainsName, TurnsName, IsIndexed, AreNewNames, AreStrangers, and_true, each_weaker, or_parts, change_first, without_first}
 use Rattle.shr_list.proofs.Paths.{all_append, AreOff, apart_left, apart_right, apart_across, apart_append, off_each}

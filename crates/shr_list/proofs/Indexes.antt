@@ -1,3 +1,4 @@
+-- SPDX-License-Identifier: GPL-2.0-only
 -- Look-ups in the maps of an index.
 use Rattle.shr_list.proofs.Common.{◌≡◌, Bool, List, [], ◌∷◌, length, None, refl}
 use Rattle.std.specs.Map.{lookup}

@@ -1,3 +1,4 @@
+-- SPDX-License-Identifier: GPL-2.0-only
 -- What a list knows of the names of its objects, over changes of the nodes.
 use Rattle.shr_list.proofs.Common.{◌≡◌, ◌≢◌, ℕ, false, is_some, List, [], ◌∷◌, ◌++◌, Option, None, Some, refl, subst, sym, map-append, Object, Names, Keyed, Name, name_by, name_in, names_of, in_nodes, GainsName, TurnsName, IsIndexed, AreStrangers, Index, LosesName, MovesName, Few, Made, GivenUp, KnowsNames}
 use Rattle.std.specs.Prelude.{Box}

@@ -1,3 +1,4 @@
+-- SPDX-License-Identifier: GPL-2.0-only
 -- What an answer of a list says of its items and of their number. No proof of this crate cites these: they are for callers.
 use Rattle.shr_list.proofs.Common.{◌≡◌, ℕ, ◌+◌, ◌≤◌, Bool, List, [], ◌∷◌, ◌++◌, true, false, ap, ◌∙◌, arith, refl, length, length-append, length_scan, length_change_first, Object, marked_object, is_named, Policy, holds, fresh, if◌then◌else◌}
 use Rattle.shr_base.specs.declared.log.Log.{Log}

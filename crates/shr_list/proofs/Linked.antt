@@ -1,3 +1,4 @@
+-- SPDX-License-Identifier: GPL-2.0-only
 -- What the operations on a chain leave linked, and that its nodes in link order are those.
 use Rattle.shr_list.proofs.Common.{◌≡◌, ◌≢◌, ℕ, ◌+◌, List, [], ◌∷◌, ◌++◌, length, Option, Some, None, refl, sym, ap, subst, ◌∙◌, arith, append_assoc, length-append, map-append, option_map, AllByRecursion, Slab, get, slab_len, Object, Node, Chain, IsOff, IsApart, Keyed, first_key, last_key, next_in, stop_after, prev_of, IsPath, stops_of, IsLinked, nodes_from, nodes_of, KeepsOtherObjects, KeepsObjects, Joins, SetsObject, each_weaker, object_at, IsStored, IsStop, Inserts, Removes}
 use Rattle.shr_list.proofs.Paths.{all_append, all_left, all_right, AreOff, apart_left, apart_right, apart_across, apart_append, off_each, path_cut, before_last, IsRing, ring_kept, ring_back, ring_front, ring_without}

@@ -1,3 +1,4 @@
+-- SPDX-License-Identifier: GPL-2.0-only
 -- A look-up of a name by its print, whose node says whose it is.
 use Rattle.shr_list.proofs.Common.{◌≡◌, ℕ, IsSome, Added, New, Known, Crowded, true, false, List, ◌∷◌, ◌++◌, Some, sym, ap, subst, ◌∙◌, Result, Ok, Err, OnErr, Object, is_named, Names, Keyed, found_clash, AddsClash, IsSameClashes, Name, name_by, print_of, entry_at, in_nodes, IsIndexed, AddsName, KeepsFound, IfOk}
 use Rattle.shr_base.specs.declared.memory.Memory.{Memory}

@@ -1,3 +1,4 @@
+-- SPDX-License-Identifier: GPL-2.0-only
 -- Paths of stops that name each other, over changes of a chain.
 use Rattle.shr_list.proofs.Common.{◌≢◌, ℕ, List, [], ◌∷◌, ◌++◌, Option, None, sym, subst, ◌∙◌, append_assoc, append-nil, AllByRecursion, Chain, IsOff, IsApart, stop_after, prev_of, IsPath, KeepsLinks, Joins, each_weaker, IsJoined}
 

@@ -1,3 +1,4 @@
+-- SPDX-License-Identifier: GPL-2.0-only
 -- The objects of a chain that is at rest.
 use Rattle.shr_list.proofs.Common.{◌≡◌, ℕ, zero, suc, List, [], ◌∷◌, length, Option, Some, None, refl, sym, ap, ◌∙◌, length-map, Slab, get, slab_len, Node, Object, Chain, Keyed, objects_of, IsLinked, nodes_from, nodes_of}
 use Rattle.shr_base.specs.Rest.{objects_from}

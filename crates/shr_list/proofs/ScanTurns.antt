@@ -1,3 +1,4 @@
+-- SPDX-License-Identifier: GPL-2.0-only
 -- A turn of the loop that scans: what it did so far, resumed, is the whole scan.
 use Rattle.shr_list.proofs.Common.{◌≡◌, ℕ, suc, ◌+◌, ◌-◌, ◌<◌, true, false, List, [], ◌∷◌, ◌++◌, length, sym, ap, ◌∙◌, arith, append-nil, Object, Policy, unmarked_object, Removed, Rotate, Skip, Stop, Scanned, case_of, scan_ends, scan_from, scan_spent, scan_none, scan_removed, scan_skipped, scan_rotated, scan_rotated_last, scan_stopped, resumed, scanned, resumed_ends, resumed_freeing, resumed_visit}
 

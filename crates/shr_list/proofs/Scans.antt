@@ -1,3 +1,4 @@
+-- SPDX-License-Identifier: GPL-2.0-only
 -- A scan over nodes: those behind it and those before it, and what each answer of the callback
 -- makes of them.
 use Rattle.shr_list.proofs.Common.{◌≡◌, ℕ, zero, suc, ◌+◌, ◌-◌, ◌<◌, ◌≤◌, Bool, true, false, List, [], ◌∷◌, ◌++◌, length, Option, Some, None, refl, sym, ap, subst, ◌∙◌, arith, append_assoc, length-append, Result, Ok, Err, map-append, append-nil, Object, Policy, unmarked_object, Removed, Rotate, Skip, Stop, Scanned, case_of, scan_of, scan_ends, resumed, scanned, Keyed, Queued, objects_of, first_key, IsAt, AtNode}

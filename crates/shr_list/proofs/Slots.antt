@@ -1,3 +1,4 @@
+-- SPDX-License-Identifier: GPL-2.0-only
 -- The slots of a list, and the keys that its objects keep.
 use Rattle.shr_list.proofs.Common.{◌≡◌, ℕ, zero, suc, ◌≤◌, List, [], ◌∷◌, ◌++◌, length, take, Some, refl, sym, subst, ap, ◌∙◌, inl, inr, arith, slice_get, AllByRecursion, map-append, Object, IsOff, IsApart, Keyed, Queued, IsQueueWhole, keys_of, objects_of, AreNodesKept, last_key, key_at, name_by, names_of, stops_of, each_weaker, map, Contains, zip, bare, tags_of, KeepsKeys, key_before}
 use Rattle.slab.proofs.SlabLemmas.{Contains-cons, Contains-cons_cases}

@@ -1,3 +1,4 @@
+-- SPDX-License-Identifier: GPL-2.0-only
 -- The index over the objects of another list: admitted, withdrawn again, and found at their new nodes.
 use Rattle.shr_list.proofs.Common.{◌≡◌, ℕ, List, [], ◌∷◌, ◌++◌, length, take, Option, None, refl, sym, ap, subst, ◌∙◌, arith, append_assoc, append-nil, length-map, AllByRecursion, Object, Names, Keyed, objects_of, IsApart, name_by, name_in, names_of, in_nodes, KeepsFound, GainsName, TurnsName, IsIndexed, AreNewNames, Withdraws, Index, KnowsNames, MovesName, EntersNodes, take-append-le, take_all}
 use Rattle.shr_list.proofs.Paths.{all_right}

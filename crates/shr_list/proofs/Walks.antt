@@ -1,3 +1,4 @@
+-- SPDX-License-Identifier: GPL-2.0-only
 -- A walk over nodes from the head by their keys.
 use Rattle.shr_list.proofs.Common.{◌≡◌, ℕ, zero, suc, ◌+◌, ◌<◌, ◌≤◌, List, [], ◌∷◌, ◌++◌, length, take, drop, Some, None, refl, sym, ap, arith, true, false, slice_get, drop_all, is_named, Object, Keyed, objects_of, first_key, last_key, key_at, key_named, IsAt}
 

@@ -1,3 +1,4 @@
+-- SPDX-License-Identifier: GPL-2.0-only
 -- What each call of a list answers, and when.
 use Rattle.std.specs.Prelude.{◌≡◌, ℕ, Bool, Some, ◌+◌, ◌<◌, ◌≤◌, true, false, not, List, [], ◌∷◌, ◌++◌, length, option_map, ◌⊎◌}
 use Rattle.shr_base.specs.declared.objects.Object.{Object}

@@ -1,3 +1,4 @@
+-- SPDX-License-Identifier: GPL-2.0-only
 -- How the journal and the objects of a list are boxed. No public clause cites this module.
 use Rattle.std.specs.Prelude.{◌≡◌, ℕ, Bool, false, List, [], Option, Some, None, Box}
 use Rattle.std.specs.declared.alloc.Global.{Global}

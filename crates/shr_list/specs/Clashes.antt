@@ -1,3 +1,4 @@
+-- SPDX-License-Identifier: GPL-2.0-only
 -- Names whose print another name has. No public clause cites this module.
 use Rattle.std.specs.Prelude.{◌≡◌, ◌≢◌, ◌&&◌, ◌==◌, ◌+◌, ◌*◌, ◌%◌, ◌^◌, ℕ, Bool, List, Option, Some, None, IsSome, bytes_eq, if◌then◌else◌}
 use Rattle.std.specs.Hash.DefaultHasher.{initial, write, finish}

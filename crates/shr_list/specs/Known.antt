@@ -1,3 +1,4 @@
+-- SPDX-License-Identifier: GPL-2.0-only
 -- What a list knows of the names of its objects. No public clause cites this module.
 use Rattle.std.specs.Prelude.{◌≡◌, ◌<◌, Bool, true, false, ℕ, List, ◌∷◌, ◌++◌, [], None, IsSome}
 use Rattle.shr_base.specs.declared.objects.Object.{Object}

@@ -1,3 +1,4 @@
+-- SPDX-License-Identifier: GPL-2.0-only
 -- The index of a list. No public clause cites this module.
 use Rattle.std.specs.Prelude.{◌≡◌, ◌+◌, ◌%◌, ◌^◌, ℕ, Bool, true, false, List, ◌++◌, map, Option, Some, None, IsSome, if◌then◌else◌, nat_eq}
 use Rattle.std.specs.List.{AllByRecursion}

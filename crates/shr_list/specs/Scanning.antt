@@ -1,3 +1,4 @@
+-- SPDX-License-Identifier: GPL-2.0-only
 -- What a scan of a queue does.
 use Rattle.std.specs.Prelude.{◌≡◌, ℕ, List}
 use Rattle.shr_base.specs.declared.objects.LruStatus.{LruStatus}

@@ -1,3 +1,4 @@
+// SPDX-License-Identifier: GPL-2.0-only
 //! What the calls of a list answer.
 //!
 //! The variants that refuse stand last, in the order of the tests: Closed, Worn, Memory.
@@ -24,7 +25,7 @@ pub enum AddAnswer {
     Memory { object: Object },
 }
 
-/// What `List::look` answers. Our own.
+/// What `List::look` answers.
 #[derive(Drop)]
 pub enum LookAnswer {
     /// The object is there, is marked now, and has this value.
@@ -59,7 +60,7 @@ pub enum DropAnswer {
     Memory,
 }
 
-/// What `List::set_pin` answers. Our own.
+/// What `List::set_pin` answers.
 #[derive(Clone, Copy, Debug, PartialEq, Eq)]
 pub enum PinAnswer {
     /// The object is there and has the pin that was asked for, even if it had it before.
@@ -110,7 +111,7 @@ pub enum CloseAnswer {
     Memory,
 }
 
-/// What `List::drain` answers. Our own.
+/// What `List::drain` answers.
 #[derive(Drop)]
 pub enum DrainAnswer {
     /// The objects that the list held, from the head.

@@ -1,3 +1,4 @@
+// SPDX-License-Identifier: GPL-2.0-only
 //! The journal and the objects of a list in a box, so that a list is small.
 
 ghost use Rattle.std.specs.Prelude.{◌≡◌, ◌<◌, ◌++◌, ◌∷◌, [], true, length, slice_get, option_copied, option_map, OnOk, OnErr, IfOk, IfErr};
@@ -35,7 +36,7 @@ struct Inside {
 }
 
 /// A journal and a queue, or none as long as there is no entry: most lists of a core are never
-/// used, and a room that is taken moves its list. Our own.
+/// used, and a room that is taken moves its list.
 #[derive(Drop)]
 pub struct Contents {
     inside: Option<Box<Inside>>,
@@ -51,7 +52,7 @@ impl Model for Contents {
 }
 
 impl Contents {
-    /// No entry and no object. It takes no memory. Our own.
+    /// No entry and no object. It takes no memory.
     pub fn new(alloc: Global) -> Contents
         ensures { result ≡ no_contents }
     {
@@ -61,7 +62,7 @@ impl Contents {
         }
     }
 
-    /// The journal, oldest entry first. Our own.
+    /// The journal, oldest entry first.
     pub fn entries(&self) -> &[Entry]
         ensures { result.now ≡ self.now.entries }
     {
@@ -71,7 +72,7 @@ impl Contents {
         }
     }
 
-    /// Whether the list was closed. Our own.
+    /// Whether the list was closed.
     pub fn closed(&self) -> bool
         ensures { result ≡ self.now.closed }
     {
@@ -96,7 +97,7 @@ impl Contents {
         Ok(())
     }
 
-    /// Makes room for an entry. Our own.
+    /// Makes room for an entry.
     #[inline(always)]
     pub fn reserve(&mut self) -> Result<(), Memory>
         ensures spare { OnOk result (0 < self.new.spare) }
@@ -111,7 +112,7 @@ impl Contents {
         }
     }
 
-    /// Puts an entry at the end of the journal, in the room that was made for it. Our own.
+    /// Puts an entry at the end of the journal, in the room that was made for it.
     // Inlined, since an entry is moved by pieces where it is an argument.
     #[inline(always)]
     pub fn log(&mut self, entry: Entry)
@@ -125,7 +126,7 @@ impl Contents {
         }
     }
 
-    /// Closes the list by its last entry, in the room that was made for it. Our own.
+    /// Closes the list by its last entry, in the room that was made for it.
     pub fn close(&mut self)
         requires { 0 < self.old.spare }
         ensures entries { self.new.entries ≡ self.old.entries ++ Closed ∷ [] }
@@ -138,7 +139,7 @@ impl Contents {
         }
     }
 
-    /// The number of objects. Our own.
+    /// The number of objects.
     pub fn len(&self) -> usize
         ensures { result ≡ length self.now.objects.items }
     {
@@ -148,7 +149,7 @@ impl Contents {
         }
     }
 
-    /// `Queue::item`. Our own.
+    /// `Queue::item`.
     pub fn item(&self, i: usize) -> Option<&Object>
         ensures { option_copied result ≡ slice_get self.now.objects.items i }
     {
@@ -158,7 +159,7 @@ impl Contents {
         }
     }
 
-    /// `Queue::slot`. Our own.
+    /// `Queue::slot`.
     pub fn slot(&self, i: usize) -> Option<Slot>
         ensures slot { result ≡ slot_at self.now.objects.keys i }
         ensures apart { IsApart self.now.objects.keys }
@@ -170,7 +171,7 @@ impl Contents {
         }
     }
 
-    /// Whether an object has this birth group and key. Our own.
+    /// Whether an object has this birth group and key.
     pub fn holds(&self, birth: u16, key: &Text) -> bool
         ensures { result ≡ holds birth key.now self.now.objects.items }
     {
@@ -180,7 +181,7 @@ impl Contents {
         }
     }
 
-    /// The first object of this birth group and key. Our own.
+    /// The first object of this birth group and key.
     pub fn get(&self, birth: u16, key: &Text) -> Option<&Object>
         ensures { option_copied result ≡ named_in birth key.now self.now.objects.items }
     {
@@ -190,7 +191,7 @@ impl Contents {
         }
     }
 
-    /// `Queue::push`. Our own.
+    /// `Queue::push`.
     pub fn push(&mut self, object: Object) -> Result<bool, Object>
         ensures told { IfOk result (λ pushed. PushGives self.old.objects object pushed
             self.new.objects) }
@@ -206,7 +207,7 @@ impl Contents {
         }
     }
 
-    /// `Queue::look`. Our own.
+    /// `Queue::look`.
     pub fn look(&mut self, birth: u16, key: &Text) -> Result<Option<Text>, Memory>
         ensures value { IfOk result (λ value. value ≡ option_map (λ (o : Object). o.value)
             (named_in birth key.now self.old.objects.items)) }
@@ -223,7 +224,7 @@ impl Contents {
         }
     }
 
-    /// `Queue::set_pin`. Our own.
+    /// `Queue::set_pin`.
     pub fn set_pin(&mut self, birth: u16, key: &Text, pinned: bool) -> bool
         ensures told { result ≡ holds birth key.now self.old.objects.items }
         ensures items { self.new.objects.items ≡ change_first (is_named birth key.now)
@@ -238,7 +239,7 @@ impl Contents {
         }
     }
 
-    /// `Queue::take`. Our own.
+    /// `Queue::take`.
     pub fn take(&mut self, birth: u16, key: &Text) -> (DropKind, Option<Object>)
         ensures kind { result.0 ≡ drop_kind_of (named_in birth key.now self.old.objects.items) }
         ensures taken { result.1 ≡ loose_of (named_in birth key.now self.old.objects.items) }
@@ -255,7 +256,7 @@ impl Contents {
     }
 
     /// `Queue::put_before`; into an empty one the other's queue moves whole. Who has room for an
-    /// entry has a box; where one has none it is as where there is no memory. Our own.
+    /// entry has a box; where one has none it is as where there is no memory.
     pub fn put_before(&mut self, other: &mut Contents) -> Result<(), Memory>
         ensures moved { OnOk result (self.new.objects.items ≡ other.old.objects.items
             ++ self.old.objects.items) }
@@ -276,7 +277,7 @@ impl Contents {
         }
     }
 
-    /// `Queue::take_all`. Our own.
+    /// `Queue::take_all`.
     pub fn take_all(&mut self) -> Result<Log<Object>, Memory>
         ensures taken { IfOk result (λ all. (all.items ≡ self.old.objects.items)
             × (self.new.objects.items ≡ [])) }
@@ -289,7 +290,7 @@ impl Contents {
         }
     }
 
-    /// `Queue::scan`. Our own.
+    /// `Queue::scan`.
     pub fn scan(&mut self, policy: Policy, asked: u32) -> Result<Scan, Memory>
         ensures scanned { IfOk result (λ scan. IsScan policy asked self.old.objects.items
             self.new.objects.items scan) }
@@ -308,7 +309,7 @@ impl Contents {
         }
     }
 
-    /// How many objects such a scan would free. Our own.
+    /// How many objects such a scan would free.
     pub fn count_freed(&self, policy: Policy, asked: u32) -> usize
         ensures { result ≡ length (scan_of policy asked self.now.objects.items).freed }
     {
@@ -318,7 +319,7 @@ impl Contents {
         }
     }
 
-    /// The journal and the objects from the head. Our own.
+    /// The journal and the objects from the head.
     pub fn into_parts(self) -> (Log<Entry>, Items)
         ensures journal { result.0.items ≡ self.entries }
         ensures items { result.1.items ≡ self.objects.items }

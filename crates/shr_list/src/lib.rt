@@ -1,3 +1,4 @@
+// SPDX-License-Identifier: GPL-2.0-only
 //! One list of objects with its journal (the kernel's `struct list_lru_one`).
 #![tactic(auto)]
 

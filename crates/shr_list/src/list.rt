@@ -1,3 +1,4 @@
+// SPDX-License-Identifier: GPL-2.0-only
 //! The list.
 
 ghost use Rattle.std.specs.Prelude.{◌≡◌, ◌^◌, ◌≤◌, [], length, slice_get, option_copied};
@@ -78,7 +79,7 @@ impl List {
         }
     }
 
-    /// The journal, oldest entry first. Our own.
+    /// The journal, oldest entry first.
     pub fn entries(&self) -> &[Entry]
         ensures journal { result.now ≡ self.now.entries }
         ensures sound { IsSound self.now }
@@ -102,7 +103,7 @@ impl List {
         self.contents.closed()
     }
 
-    /// An object, counted from the head from 0. Our own.
+    /// An object, counted from the head from 0.
     pub fn item(&self, i: u32) -> Option<&Object>
         ensures { option_copied result ≡ slice_get self.now.items i }
     {
@@ -125,7 +126,7 @@ impl List {
         self.contents.slot(i as usize)
     }
 
-    /// Ends the list, and gives the journal and the objects from the head. Our own.
+    /// Ends the list, and gives the journal and the objects from the head.
     pub fn into_parts(self) -> (Log<Entry>, Items)
         ensures journal { result.0.items ≡ self.entries }
         ensures items { result.1.items ≡ self.items }

@@ -1,3 +1,4 @@
+// SPDX-License-Identifier: GPL-2.0-only
 //! The objects of a list in their order, and an index of them by birth group and key.
 
 ghost use Rattle.std.specs.Prelude.{◌≡◌, [], ◌∷◌, ◌++◌, length, slice_get, option_copied, option_map, OnOk, OnErr, IfOk, IfErr};
@@ -74,7 +75,7 @@ impl Queue {
         self.links.len()
     }
 
-    /// An object, counted from the head from 0. It costs the number of objects before it. Our own.
+    /// An object, counted from the head from 0. It costs the number of objects before it.
     pub fn item(&self, i: usize) -> Option<&Object>
         ensures { option_copied result ≡ slice_get self.now.items i }
     {
@@ -85,7 +86,7 @@ impl Queue {
     }
 
     /// Where an object is kept, counted from the head from 0. It costs the number of objects before
-    /// it. Our own.
+    /// it.
     pub fn slot(&self, i: usize) -> Option<Slot>
         ensures slot { result ≡ slot_at self.now.keys i }
         ensures apart { IsApart self.now.keys }
@@ -102,14 +103,14 @@ impl Queue {
         self.index.find(&self.links, birth, key)
     }
 
-    /// Whether an object has this birth group and key. Our own.
+    /// Whether an object has this birth group and key.
     pub fn holds(&self, birth: u16, key: &Text) -> bool
         ensures { result ≡ holds birth key.now self.now.items }
     {
         self.locate(birth, key).is_some()
     }
 
-    /// The first object of this birth group and key. Our own.
+    /// The first object of this birth group and key.
     pub fn get(&self, birth: u16, key: &Text) -> Option<&Object>
         ensures { option_copied result ≡ named_in birth key.now self.now.items }
     {
@@ -163,7 +164,7 @@ impl Queue {
     }
 
     /// Marks the first object of this birth group and key and gives its value, if there is one. If
-    /// there is no memory for the value the object stays as it was. Our own.
+    /// there is no memory for the value the object stays as it was.
     pub fn look(&mut self, birth: u16, key: &Text) -> Result<Option<Text>, Memory>
         ensures value { IfOk result (λ value. value ≡ option_map (λ (o : Object). o.value)
             (named_in birth key.now self.old.items)) }
@@ -181,7 +182,7 @@ impl Queue {
     }
 
     /// Pins the first object of this birth group and key, or takes its pin away, and answers whether
-    /// there is one. Our own.
+    /// there is one.
     pub fn set_pin(&mut self, birth: u16, key: &Text, pinned: bool) -> bool
         ensures told { result ≡ holds birth key.now self.old.items }
         ensures items { self.new.items ≡ change_first (is_named birth key.now)
@@ -272,7 +273,7 @@ impl Queue {
         self.links.rotate(node);
     }
 
-    /// Moves the objects into a list of its own. They stay if there is no memory for it. Our own.
+    /// Moves the objects into a list of its own. They stay if there is no memory for it.
     pub fn take_all(&mut self) -> Result<Log<Object>, Memory>
         ensures taken { IfOk result (λ all. (all.items ≡ self.old.items) × (self.new.items ≡ [])) }
         ensures kept { OnErr result (self.new ≡ self.old) }
@@ -284,7 +285,7 @@ impl Queue {
         Ok(all)
     }
 
-    /// The objects at rest, where they lie. Our own.
+    /// The objects at rest, where they lie.
     pub fn into_items(self) -> Items
         ensures { result.items ≡ self.items }
     {

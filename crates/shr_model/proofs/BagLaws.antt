@@ -1,3 +1,4 @@
+-- SPDX-License-Identifier: GPL-2.0-only
 -- What was added is what was freed and what is listed.
 use Rattle.shr_model.proofs.Common.{◌≡◌, ◌≢◌, ℕ, suc, ◌+◌, ◌<◌, ◌≤◌, Bool, true, false, not, List, [], ◌∷◌, ◌++◌, map, slice_get, find, IsPermutation, refl, Option, Some, None, AllByRecursion, ap, sym, ◌∙◌, subst, append_assoc, inl, inr, arith, cases_Bool, cond_both, map-append, IsPermutation-refl, IsPermutation-trans, IsPermutation-cons, IsPermutation-middle, IsPermutation-append_right, Object, Place, Serial, Entry, Add, Look, Drop, Pin, Scan, MovedIn, Closed, Drained, place_number, is_named, holds, named_in, fresh, marked_object, pinned_object, change_first, without_first, dropped_of, after_drop, step, freed_by, Family, serials_of, added_by, added_by_all, added_in, freed_in, listed_in, AreTenant, IsPermutation-map, IsPermutation-append, IsPermutation-append_left, IsPermutation-append_comm}
 use Rattle.std.specs.List.Sorted.{IsStrictlyIncreasing}

@@ -1,3 +1,4 @@
+-- SPDX-License-Identifier: GPL-2.0-only
 -- Lemmas on truth values and what depends on one that several crates cite.
 use Rattle.shr_model.proofs.Common.{◌≡◌, Bool, true, false, refl, ap, ◌&&◌, ◌≢◌, ℕ, arith, sym, ◌≤◌, cond, not, ◌||◌, ◌==◌, nat_tests, T, suc, ◌<◌, nat_le, nat_lt}
 use Rattle.std.specs.Prelude.{Option, Some, None}

@@ -1,3 +1,4 @@
+-- SPDX-License-Identifier: GPL-2.0-only
 -- The operations of a group: how many go up and how many down, with one more.
 use Rattle.shr_model.proofs.Common.{◌≡◌, ◌+◌, Bool, true, false, cond, not, List, [], ◌∷◌, ◌++◌, length, arith, refl, and_parts, eqb-true, ◌==◌, UseStep, Serial}
 use Rattle.std.proofs.lemmas.List.Sums.{sum_by-append, sum_by-cons}

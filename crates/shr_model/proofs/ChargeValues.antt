@@ -1,3 +1,4 @@
+-- SPDX-License-Identifier: GPL-2.0-only
 -- The histories of groups and the journal of offlining at known values.
 use Rattle.shr_model.proofs.Common.{lit<, ◌≡◌, ℕ, ℤ, pos, Bool, true, false, List, [], ◌∷◌, take, drop, Some, refl, UseStep, Serial, TreeEntry, Begin, Done, IsNextUse, IsDownNext, Hierarchy, usage_after}
 use Rattle.shr_model.specs.TreeJournal.{begin_of, done_of, undone_child, MayBegin, MayBeDone}

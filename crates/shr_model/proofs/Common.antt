@@ -1,3 +1,4 @@
+-- SPDX-License-Identifier: GPL-2.0-only
 -- The names that the proofs of this crate cite most, passed on from one place. Declares nothing.
 pub use Rattle.std.proofs.Common.{Bool, List, None, Option, Some, T, [], ap, append_assoc, arith, cond, drop, eq-eqb, eqb, false, filter, get_or, inl, inr, is_some, le-leb, leb, length, length-append, lit<, lit≤, ltb, map, min, not, refl, replicate, set, subst, suc, sum, sym, take, true, zero, ℕ, ⊎_elim, ◌&&◌, ◌*◌, ◌++◌, ◌+◌, ◌-◌, ◌/◌, ◌<◌, ◌||◌, ◌∙◌, ◌∷◌, ◌≡◌, ◌≢◌, ◌≤◌, ◌⊎◌}
 pub use Rattle.std.proofs.lemmas.Bool.{and_from, and_parts, both_ways, cases_Bool, cases_lt, cond_both, eqb-false, eqb-true, ne_eqb, or_parts}

@@ -1,3 +1,4 @@
+-- SPDX-License-Identifier: GPL-2.0-only
 -- Journals of all places, when one of them gains a legal entry: what the others leave stays, and
 -- the family stays legal.
 use Rattle.shr_model.proofs.Common.{◌≡◌, ◌≢◌, ◌⊎◌, ℕ, zero, suc, ◌+◌, ◌<◌, ◌≤◌, Bool, true, false, not, ◌==◌, ◌||◌, cond, List, [], ◌∷◌, ◌++◌, length, take, slice_get, refl, Some, None, Option, ap, sym, ◌∙◌, subst, arith, inl, inr, ⊎_elim, ne_eqb, take_all, take-append-le, take_while-cons, Object, Place, Entry, Add, Look, Drop, Pin, Scan, MovedIn, Closed, Drained, at_group, IsTree, is_child, first_moved, step, IsOutcome, is_closing, is_closed, Family, moved_in, before_closed, without_child, items_given, lists_moved_at, items_at, items_of, IsAllowed, MayStand, IsLegal}

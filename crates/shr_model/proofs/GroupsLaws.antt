@@ -1,3 +1,4 @@
+-- SPDX-License-Identifier: GPL-2.0-only
 -- Laws of the tree of groups: paths, at or above, and preorder.
 use Rattle.shr_model.proofs.Common.{◌≡◌, ◌≢◌, ℕ, zero, suc, ◌+◌, ◌≤◌, ◌<◌, Bool, true, false, cond, not, ◌&&◌, ◌||◌, List, [], ◌∷◌, ◌++◌, length, get_or, set, map, filter, refl, sym, ap, subst, ◌∙◌, ⊎_elim, arith, ◌==◌, flat_map, range_with_len, nat_tests, append-nil, Hierarchy, IsHierarchy, is_later, parent_of, IsTree, path_of, depth_of, is_child, children_of, preorder_of, nat_lt, cases_lt, map-id, length_push, get_or_push, get_or_append_left, same_lists, get_or-set_same, get_or-set_other, length-set}
 use Rattle.std.proofs.lemmas.List.FromFn.{map-range_with_len_more, length-map-range_with_len, get_or-map-range_with_len}

@@ -1,3 +1,4 @@
+-- SPDX-License-Identifier: GPL-2.0-only
 -- At or above is a partial order, and the preorder of a group has each group of its subtree once,
 -- children behind parents.
 use Rattle.shr_model.proofs.Common.{◌≡◌, ◌≢◌, ℕ, zero, suc, ◌+◌, ◌≤◌, ◌<◌, List, [], ◌∷◌, ◌++◌, length, take, get_or, refl, sym, subst, ◌∙◌, ◌⊎◌, inl, inr, arith, append_assoc, flat_map, Contains, range_with_len, AllByRecursion, append-nil, parent_of, IsTree, path_of, IsAtOrAbove, is_child, children_of, preorder_of, AllPairs}

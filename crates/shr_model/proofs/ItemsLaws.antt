@@ -1,3 +1,4 @@
+-- SPDX-License-Identifier: GPL-2.0-only
 -- One entry more.
 use Rattle.shr_model.proofs.Common.{◌≡◌, true, false, List, [], ◌∷◌, ◌++◌, ◌≤◌, length, take, refl, ap, sym, subst, ◌∙◌, inl, inr, arith, length-append, take-append-le, Object, Entry, step, IsOutcome, first_moved, later_moved, is_closed, is_closing, IsOpenBeforeEach, HasJournal, Add, Look, Drop, Pin, Scan, MovedIn, Closed, Drained}
 use Rattle.std.proofs.Math.Nat.{eq-or-lt_of_le}

@@ -1,3 +1,4 @@
+-- SPDX-License-Identifier: GPL-2.0-only
 -- The journals of registrations and of offlining, the histories of groups, and records of passes,
 -- at known values.
 use Rattle.shr_model.proofs.Common.{◌≡◌, ℕ, ℤ, pos, zero, suc, ◌+◌, ◌<◌, Bool, true, false, List, [], ◌∷◌, take, drop, refl, Some, None, Option, lit<, subst, arith, Registered, Unregistered, Idle, TreeEntry, Begin, Done, Through, Stop, IsNextPool, IsPoolJournal, Hierarchy, IsHierarchy, IsTree, parent_of, is_later, FollowsArithmetic, UseStep, Serial, IsNextUse, IsDownNext, Made, IsChargeHistory, IsBelow, AreTakenBack}

@@ -1,3 +1,4 @@
+-- SPDX-License-Identifier: GPL-2.0-only
 -- The definitions on paths at known values.
 use Rattle.std.specs.Prelude.{◌≡◌, true, false, [], ◌∷◌, codes, refl}
 use Rattle.shr_model.specs.Pieces.{cut, pieces, joined}

@@ -1,3 +1,4 @@
+-- SPDX-License-Identifier: GPL-2.0-only
 -- The definitions on entries of tenants at known values.
 use Rattle.shr_model.proofs.Common.{◌≡◌, true, false, List, [], ◌∷◌, map, codes, refl, Some, None, Clock, Serial, Entry, Add, Look, Drop, Pin, Scan, MovedIn, Closed, Drained, is_tenant, AreTenant, birth_of, by_of}
 use Rattle.shr_base.specs.declared.journals.DropKind.TheVariants as kind

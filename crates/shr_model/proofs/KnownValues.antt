@@ -1,3 +1,4 @@
+-- SPDX-License-Identifier: GPL-2.0-only
 -- The definitions at known values.
 use Rattle.shr_model.proofs.Common.{◌≡◌, ℕ, Bool, true, false, List, [], ◌∷◌, codes, refl, ◌==◌, if◌then◌else◌, Object, Plain, Clock, Halt, Place, Serial, Entry, Add, Look, Drop, Pin, MovedIn, Closed, place_number, unit_of, path_of, depth_of, preorder_of, fresh, marked_object, pinned_object, scan_of, Family, items_of, items_at, added_in, freed_in, listed_in, bit_of}
 use Rattle.shr_base.specs.declared.journals.DropKind.TheVariants as kind

@@ -1,3 +1,4 @@
+-- SPDX-License-Identifier: GPL-2.0-only
 -- What legal journals that fit together add is what they free and what they leave.
 use Rattle.shr_model.proofs.Common.{◌≡◌, ◌≢◌, ◌⊎◌, ℕ, ◌+◌, ◌<◌, true, List, [], ◌∷◌, ◌++◌, length, map, filter, flat_map, Contains, IsPermutation, refl, AllByRecursion, ap, sym, ◌∙◌, subst, arith, inl, inr, cases_Bool, both_ways, Object, Place, Serial, Entry, at_group, IsTree, parent_of, is_child, is_closed, Family, moved_in, items_given, lists_moved_at, items_of, IsLegal, IsPaired, added_by_all, added_in, freed_at, freed_in, listed_in}
 use Rattle.shr_model.proofs.GroupsLaws.{child_takes}

@@ -1,3 +1,4 @@
+-- SPDX-License-Identifier: GPL-2.0-only
 -- Journals and families at known values: which entries may stand, which journals are legal, which
 -- fit, and what they free.
 use Rattle.shr_model.proofs.Common.{◌≡◌, ℕ, zero, suc, true, false, List, [], ◌∷◌, codes, refl, ◌==◌, if◌then◌else◌, take, slice_get, Contains, Some, None, Option, lit<, subst, ap, arith, inl, inr, Plain, Place, Serial, Entry, Add, Look, Drop, Pin, Scan, MovedIn, Closed, Drained, path_of, is_child, IsOutcome, Family, IsLegal, IsPaired, IsBornAt, IsAllowed, MayStand, added_in, freed_in, listed_in, IsPermutation-sym, IsPermutation-to_front, length_permutation}

@@ -1,3 +1,4 @@
+-- SPDX-License-Identifier: GPL-2.0-only
 mod Common
 pub mod Lists
 pub mod Booleans

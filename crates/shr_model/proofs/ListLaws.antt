@@ -1,3 +1,4 @@
+-- SPDX-License-Identifier: GPL-2.0-only
 -- A journal with one entry more, and a list's items under its calls.
 use Rattle.shr_model.proofs.Common.{◌≡◌, ℕ, Bool, true, false, ◌||◌, List, [], ◌∷◌, ◌++◌, refl, ap, sym, ◌∙◌, length, Object, Entry, Add, Look, Drop, Pin, Scan, MovedIn, Closed, Drained, step, IsOutcome, is_closing, is_closed, first_moved, later_moved, HasJournal}
 use Rattle.std.proofs.Math.Bool.{or-false}

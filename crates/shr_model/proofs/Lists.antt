@@ -1,3 +1,4 @@
+-- SPDX-License-Identifier: GPL-2.0-only
 -- Lemmas on lists and options that several crates cite.
 use Rattle.shr_model.proofs.Common.{◌≡◌, ℕ, zero, suc, List, [], ◌∷◌, get_or, sym, ◌+◌, ◌++◌, ap, ◌∙◌, ◌≤◌, length, take, refl, ◌<◌, map, arith, Some, some, some-injective, some-ne-none, get_elem?, take_all, append-nil, flat_map, slice_get, AllByRecursion, Option, None, subst, Bool, true, false, cond, filter, sum, is_some, ◌||◌}
 use Rattle.std.proofs.lemmas.List.{append_assoc, get_or_default, map_more, take_more}

@@ -1,3 +1,4 @@
+-- SPDX-License-Identifier: GPL-2.0-only
 -- What a legal journal takes in from the children, and what it gives to the parent.
 use Rattle.shr_model.proofs.Common.{◌≡◌, ◌≢◌, ℕ, zero, suc, ◌+◌, ◌<◌, ◌≤◌, Bool, true, false, not, ◌==◌, cond, if◌then◌else◌, List, [], ◌∷◌, ◌++◌, length, take, slice_get, flat_map, Contains, refl, Some, AllByRecursion, prefix_len, ap, sym, ◌∙◌, subst, arith, inl, inr, append_assoc, ne_eqb, take_while-cons, Object, Place, Entry, Add, Look, Drop, Pin, Scan, MovedIn, Closed, Drained, at_group, IsTree, parent_of, is_child, first_moved, later_moved, step, is_closing, is_closed, IsOpenBeforeEach, Family, moved_in, before_closed, without_child, items_given, lists_moved_at, IsLegal}
 use Rattle.std.proofs.Common.{append-nil}

@@ -1,3 +1,4 @@
+-- SPDX-License-Identifier: GPL-2.0-only
 -- Lemmas on numbers that several crates cite.
 use Rattle.shr_model.proofs.Common.{◌≡◌, ℕ, ◌+◌, eqb, cond, arith, suc, zero, List, ◌∷◌, ◌++◌, ap, ◌∙◌, not, nat_tests, min, ◌==◌, ◌&&◌, range_with_len, ltb, ◌<◌, ◌≢◌, false}
 use Rattle.std.specs.Ordering.{nat_cmp, is_eq, is_lt}

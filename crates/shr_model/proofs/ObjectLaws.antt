@@ -1,3 +1,4 @@
+-- SPDX-License-Identifier: GPL-2.0-only
 -- The objects of a list under a look, a drop and a pin.
 use Rattle.shr_model.proofs.Common.{◌≡◌, ℕ, zero, suc, ◌+◌, ◌<◌, Bool, true, false, ◌||◌, cond, List, [], ◌∷◌, length, get_or, set, refl, sym, ap, ◌∙◌, arith, Some, None, Object, is_named, holds, named_in, change_first, without_first, after_drop, is_some, or_parts, drop_kind_of}
 use Rattle.std.proofs.lemmas.List.Quantifiers.{position-Some}

@@ -1,3 +1,4 @@
+-- SPDX-License-Identifier: GPL-2.0-only
 -- What the loop of a pass knows at each turn, with n asks made and `left` to go.
 use Rattle.shr_model.proofs.Common.{◌≡◌, ℕ, zero, suc, ◌+◌, ◌*◌, ◌<◌, ◌≤◌, ◌⊎◌, true, false, cond, leb, min, take, replicate, ap, sym, ◌∙◌, subst, ⊎_elim, arith, nat_tests, Some, None, cases_Bool, Through, Stop, ask_of, due_asks, FollowsArithmetic, batch_of, delta_of, total_of, next_of, ◌/◌, sum, le-leb, take-replicate, NoRoom, Worn}
 use Rattle.std.proofs.lemmas.List.Folds.{sum_by-replicate}

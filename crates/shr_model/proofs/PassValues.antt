@@ -1,3 +1,4 @@
+-- SPDX-License-Identifier: GPL-2.0-only
 -- The arithmetic of a pass and the deferred word at known values.
 use Rattle.shr_model.proofs.Common.{◌≡◌, ◌-◌, ◌^◌, refl, [], ◌∷◌, replicate, Some, None, Place, batch_of, delta_of, total_of, next_of, ask_of, due_asks}
 use Rattle.shr_model.specs.Pass.{due, ask_size}

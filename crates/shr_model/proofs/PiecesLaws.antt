@@ -1,3 +1,4 @@
+-- SPDX-License-Identifier: GPL-2.0-only
 -- Parts that are joined are the bytes, and bytes that are cut are the parts.
 use Rattle.shr_model.proofs.Common.{◌≡◌, ℕ, suc, ◌+◌, ◌≤◌, ◌<◌, Bool, true, false, cond, ◌&&◌, List, [], ◌∷◌, ◌++◌, length, take, drop, Option, Some, None, refl, sym, ap, ◌∙◌, arith, eq-eqb, ◌==◌, ◌-◌, nat_tests, prefix_len, list_all, take_rest}
 use Rattle.shr_model.specs.Pieces.{Parts, cut, pieces, joined, differs}

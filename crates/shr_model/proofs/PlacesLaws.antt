@@ -1,3 +1,4 @@
+-- SPDX-License-Identifier: GPL-2.0-only
 -- Places, and the ends of lists by place.
 use Rattle.shr_model.proofs.Common.{◌≡◌, ◌≢◌, ◌⊎◌, ℕ, zero, suc, ◌<◌, true, ◌&&◌, ◌==◌, List, [], ◌∷◌, length, map, find, slice_get, Contains, refl, Some, None, ap, sym, ◌∙◌, inl, inr, cases_Bool, and_parts, and_from, eqb-true, Place, place_number, AllAdjacentBelow, is_place}
 use Rattle.std.proofs.lemmas.Bool.{eq-eqb}

@@ -1,3 +1,4 @@
+-- SPDX-License-Identifier: GPL-2.0-only
 -- The journal of registrations, one entry longer.
 use Rattle.shr_model.proofs.Common.{◌≡◌, ◌≢◌, ◌⊎◌, ℕ, zero, suc, ◌+◌, ◌==◌, ◌<◌, ◌≤◌, Bool, true, false, cond, eqb, leb, List, [], ◌∷◌, ◌++◌, length, take, sym, refl, ap, subst, ◌∙◌, inl, inr, ⊎_elim, arith, eq-eqb, ◌&&◌, Option, Some, None, take_all, take-append-le, some, some-injective, some-ne-none, get_elem?, PoolEntry, Registered, Unregistered, Idle, IsNextPool, IsPoolJournal}
 use mathlib.Core.Logic.{dite}

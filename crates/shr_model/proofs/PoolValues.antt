@@ -1,3 +1,4 @@
+-- SPDX-License-Identifier: GPL-2.0-only
 -- The journal of registrations at known values.
 use Rattle.shr_model.proofs.Common.{◌≡◌, List, [], ◌∷◌, Some, None, true, refl, PoolEntry, Registered, Unregistered, Idle}
 use Rattle.shr_model.specs.Pool.{phase_of, decl_of, decl_from, last_number, number_from, is_live_decl, is_live_below, lowest_idle, lowest_free, end_of, registrations, decl_at, attempt_at}

@@ -1,3 +1,4 @@
+-- SPDX-License-Identifier: GPL-2.0-only
 -- A scan, one visit after another.
 use Rattle.shr_model.proofs.Common.{◌≡◌, cond, ℕ, zero, suc, ◌+◌, ◌≤◌, Bool, true, false, List, [], ◌∷◌, ◌++◌, length, refl, sym, ap, ◌∙◌, arith, append_assoc, length-append, min, IsPermutation, AllByRecursion, append-nil, map-append, IsPermutation-refl, IsPermutation-sym, IsPermutation-trans, IsPermutation-cons, IsPermutation-middle, IsPermutation-to_front, IsPermutation-append_right, length_permutation, Object, Policy, Plain, Clock, Halt, unmarked_object, LruStatus, Removed, Rotate, Skip, Scanned, case_of, scan_ends, after_visit, after_freeing, scan_of, serials_of, length-map}
 use Rattle.shr_base.specs.declared.objects.LruStatus.TheVariants.{Stop}

@@ -1,3 +1,4 @@
+-- SPDX-License-Identifier: GPL-2.0-only
 -- Journals in which each entry is a tenant's: nothing moves in, and nothing is closed.
 use Rattle.shr_model.proofs.Common.{◌≡◌, ℕ, zero, suc, ◌<◌, ◌≤◌, true, false, ◌==◌, List, [], ◌∷◌, ◌++◌, length, take, slice_get, Contains, refl, Some, list_all, AllByRecursion, ap, sym, ◌∙◌, subst, arith, and_parts, and_from, both_ways, cond_both, eqb-true, Object, Place, Entry, Add, Look, Drop, Pin, Scan, MovedIn, Closed, Drained, at_group, parent_of, IsTree, path_of, IsAtOrAbove, is_child, step, is_closed, HasJournal, Family, items_given, items_of, items_at, moved_in, IsBornAt, IsAllowed, IsLegal, IsPaired, freed_at, is_tenant, AreTenant, birth_of, eqb-false}
 use Rattle.std.proofs.lemmas.List.Elements.{All-contains, All-from_recursion}

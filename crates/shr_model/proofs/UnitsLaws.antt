@@ -1,3 +1,4 @@
+-- SPDX-License-Identifier: GPL-2.0-only
 -- The ids that the maps of several units show.
 use Rattle.shr_model.proofs.Common.{◌≡◌, ℕ, zero, suc, ◌+◌, ◌*◌, ◌<◌, ◌≤◌, Bool, true, false, cond, List, [], ◌∷◌, ◌++◌, length, map, take, sym, ap, subst, ◌∙◌, arith, length-append, filter, flat_map, AllByRecursion, range_with_len, set_bits_of, ids_in, unit_of, is_set}
 use Rattle.std.proofs.Math.Seq.{take-append_seam}

@@ -1,3 +1,4 @@
+-- SPDX-License-Identifier: GPL-2.0-only
 -- Journals of pools and their free units, at known values.
 use Rattle.shr_model.proofs.Common.{◌≡◌, true, false, List, [], ◌∷◌, refl, arith, Serial, lit≤}
 use Rattle.shr_base.specs.declared.journals.PlainEntry.{PlainEntry}

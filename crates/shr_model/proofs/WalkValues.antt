@@ -1,3 +1,4 @@
+-- SPDX-License-Identifier: GPL-2.0-only
 -- The records of walks, and what commands make and move, at known values.
 use Rattle.shr_model.proofs.Common.{◌≡◌, ◌^◌, ◌+◌, pos, true, false, [], ◌∷◌, Some, None, refl, UseStep, set_bits_of, ids_in, units_of, is_refused}
 use Rattle.shr_base.specs.declared.scripts.Command.TheVariants.{Balance}

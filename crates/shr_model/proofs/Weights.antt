@@ -1,3 +1,4 @@
+-- SPDX-License-Identifier: GPL-2.0-only
 -- What a journal adds and takes in weighs what it frees, gives away and leaves, whatever a serial
 -- weighs.
 use Rattle.shr_model.proofs.Common.{◌≡◌, ℕ, zero, suc, ◌+◌, ◌<◌, Bool, true, ◌==◌, cond, List, [], ◌∷◌, ◌++◌, find, IsPermutation, refl, Option, Some, None, ap, sym, arith, inl, inr, cases_Bool, and_parts, and_from, eqb-true, IsPermutation-refl, IsPermutation-sym, IsPermutation-trans, IsPermutation-cons, IsPermutation-middle, Object, Policy, Serial, Entry, Add, Look, Drop, Pin, Scan, MovedIn, Closed, Drained, is_named, named_in, marked_object, unmarked_object, pinned_object, without_first, LruStatus, Removed, Rotate, Skip, case_of, Scanned, scan_ends, after_visit, after_freeing, dropped_of, after_drop, first_moved, later_moved, step, IsOutcome, freed_by, serials_of, added_by, added_by_all}

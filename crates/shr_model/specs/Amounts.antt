@@ -1,3 +1,4 @@
+-- SPDX-License-Identifier: GPL-2.0-only
 -- Deferred words by their places, and their sums.
 use Rattle.std.specs.Prelude.{ℕ, cond, List, sum_by}
 use Rattle.shr_base.specs.declared.places.Place.{Place}

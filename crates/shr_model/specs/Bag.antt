@@ -1,3 +1,4 @@
+-- SPDX-License-Identifier: GPL-2.0-only
 -- Which objects were added, freed and are listed, by the serials of the commands that added them.
 use Rattle.std.specs.Prelude.{◌≢◌, ℕ, if◌then◌else◌, List, [], ◌∷◌, ◌++◌, map, flat_map, IsPermutation}
 use Rattle.std.specs.List.{AllByRecursion}

@@ -1,3 +1,4 @@
+-- SPDX-License-Identifier: GPL-2.0-only
 -- The journals of all places together: what they leave, which are legal, and how they fit.
 use Rattle.std.specs.Prelude.{◌≡◌, ◌≢◌, ℕ, zero, suc, ◌<◌, true, false, not, ◌==◌, if◌then◌else◌, ◌↔◌, List, [], ◌∷◌, length, take, slice_get, filter_map, take_while, Contains, Option, Some, None}
 use Rattle.shr_base.specs.declared.objects.Object.{Object}

@@ -1,3 +1,4 @@
+-- SPDX-License-Identifier: GPL-2.0-only
 -- Lists of entries, each of which may stand behind those before it.
 use Rattle.std.specs.Prelude.{List, [], ◌∷◌, ◌++◌}
 

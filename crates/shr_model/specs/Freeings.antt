@@ -1,3 +1,4 @@
+-- SPDX-License-Identifier: GPL-2.0-only
 -- Which objects each entry freed, and how many of them were born at or below a group.
 use Rattle.std.specs.Prelude.{ℕ, Bool, ◌==◌, List, map, count_by}
 use Rattle.std.specs.List.{list_any, enumerate_from}

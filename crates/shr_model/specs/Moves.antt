@@ -1,3 +1,4 @@
+-- SPDX-License-Identifier: GPL-2.0-only
 -- What passes and carries gave to the deferred word of a place and took from it.
 use Rattle.std.specs.Prelude.{ℕ, ◌+◌, Bool, ◌&&◌, ◌==◌, cond, List, flat_map, sum_by}
 use Rattle.shr_base.specs.declared.places.Place.{Place}

@@ -1,3 +1,4 @@
+-- SPDX-License-Identifier: GPL-2.0-only
 -- The arithmetic of a pass, over unbounded numbers. Linux: do_shrink_slab in mm/shrinker.c.
 use Rattle.std.specs.Prelude.{◌≡◌, ℕ, ◌+◌, ◌-◌, ◌*◌, ◌/◌, ◌^◌, ◌≤◌, ◌<◌, min, cond, ◌==◌, nat_le, List, take, replicate, sum}
 use Rattle.shr_base.specs.declared.walks.Ending.{Ending}

@@ -1,3 +1,4 @@
+-- SPDX-License-Identifier: GPL-2.0-only
 -- How a pass goes on from batch to batch.
 use Rattle.std.specs.Prelude.{ℕ, Bool, min, cond, ◌||◌, nat_le, Option, None, Some}
 

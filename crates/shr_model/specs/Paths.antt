@@ -1,3 +1,4 @@
+-- SPDX-License-Identifier: GPL-2.0-only
 -- Paths of groups: which bytes are one, and the path of its parent.
 use Rattle.std.specs.Prelude.{ℕ, ◌+◌, ◌-◌, Bool, false, ◌&&◌, ◌||◌, ◌==◌, if◌then◌else◌, List, [], ◌∷◌, length, take, reverse, bytes_eq, codes}
 use Rattle.std.specs.List.{list_all, prefix_len}

@@ -1,3 +1,4 @@
+-- SPDX-License-Identifier: GPL-2.0-only
 -- The entries of tenants, whose birth group is the group of the journal.
 use Rattle.std.specs.Prelude.{Option, Some, None}
 use Rattle.shr_base.specs.declared.places.Serial.{Serial}

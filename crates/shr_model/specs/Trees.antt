@@ -1,3 +1,4 @@
+-- SPDX-License-Identifier: GPL-2.0-only
 -- A tree of groups as its tables have it.
 use Rattle.std.specs.Prelude.{◌≡◌, ℕ, ◌<◌, false, List, length}
 use Rattle.shr_model.specs.Groups.{parent_of, is_later, Hierarchy, path_of}

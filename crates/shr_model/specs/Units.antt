@@ -1,3 +1,4 @@
+-- SPDX-License-Identifier: GPL-2.0-only
 -- The journal of one pool on one node, and how many of its units are free.
 use Rattle.std.specs.Prelude.{◌≡◌, ℕ, ◌+◌, ◌-◌, ◌≤◌, nat_le, min, cond, List, [], fold}
 use Rattle.shr_base.specs.declared.journals.PlainEntry.{PlainEntry}

@@ -1,3 +1,4 @@
+-- SPDX-License-Identifier: GPL-2.0-only
 -- What the record of a walk says: what it is of, and its attempts by place.
 use Rattle.std.specs.Prelude.{ℕ, Bool, true, false, List, map, filter, filter_map, flat_map, sum_by}
 use Rattle.shr_base.specs.declared.places.Place.{Place}

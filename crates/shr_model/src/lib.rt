@@ -1,3 +1,4 @@
+// SPDX-License-Identifier: GPL-2.0-only
 //! The model: the definitions that more than one crate must believe, and their laws. There is
 //! nothing to run.
 //!

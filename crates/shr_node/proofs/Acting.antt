@@ -1,3 +1,4 @@
+-- SPDX-License-Identifier: GPL-2.0-only
 -- Acting on the first open list, and giving its room back.
 use Rattle.shr_node.proofs.Common.{◌≡◌, ℕ, zero, suc, ◌<◌, ◌≤◌, Bool, true, false, cond, List, [], ◌∷◌, ◌++◌, length, sym, refl, ap, subst, ◌∙◌, inl, arith, length-append, ne_eqb, not_some, append-nil, Contains, Option, Some, ◌&&◌, ◌==◌, nat_lt, Object, Place, Serial, Entry, Add, Look, Drop, Pin, Scan, MovedIn, Closed, Drained, place_number, at_group, IsTree, is_child, named_in, step, IsOutcome, is_closed, drop_kind_of, moved_in, IsAllowed, child_takes, child_higher, IsAtOrAbove-le, IsAtOrAbove-refl, Listed, Policy, Takes, RefusesWorn, LacksMemory, TellsScan, scan_entry, drain_entry, Each, View, Shape, Room, RoomContent, Holding, Made, Known, Claims, no_rooms, place_id, group_of, beside, AreBorn, list_content, groups_in, Core, IsPlaceOfShape, MayTake, shape_of, IsInHand, with_taken, with_given, in_hand, IsTaken, last_entry, half_after, moved_in_hand, IsBacked, has_taken, inside, Gains, Knows, bits_for, with_kept, NodeAnswer, IsFirstOpen, IsOpened, WasOpen, IsRoomReady, IsUntouched, entry_made, Acts, LackedRoom, HadRoom, ScansPlace, IsBornAt, HasRoom, IsWorn, Counted, IsUnspliced, taken_in_hand, TenantGives, TenantIsWorn, TenantLacks}
 use Rattle.shr_base.specs.declared.journals.DropKind.TheVariants.{Dropped, Pinned}

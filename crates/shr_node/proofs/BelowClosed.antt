@@ -1,3 +1,4 @@
+-- SPDX-License-Identifier: GPL-2.0-only
 -- What is below a closed list is closed: no Closed is made before the list of each child was moved
 -- in, and a child's list has its Closed exactly where its parent's has that MovedIn.
 use Rattle.shr_node.proofs.Common.{◌≡◌, ℕ, zero, suc, ◌<◌, true, List, length, take, refl, subst, ⊎_elim, arith, dite, ℕ_discrete, Place, Closed, at_group, IsTree, parent_of, IsAtOrAbove, IsAtOrAbove-le, child_again, Has_from_Contains, Contains_from_Has, moved_in, is_closed, closed_at}

@@ -1,3 +1,4 @@
+-- SPDX-License-Identifier: GPL-2.0-only
 -- Going up from the birth group, over closed lists.
 use Rattle.shr_node.proofs.Common.{◌≡◌, ◌≢◌, ℕ, ◌<◌, inl, inr, true, List, [], length, take, sym, refl, subst, ⊎_elim, arith, Some, Place, Entry, Closed, place_number, IsTree, parent_of, path_of, IsAtOrAbove, is_closed, on_child, IsAtOrAbove-trans, IsAtOrAbove-le, IsAtOrAbove-refl, Has_from_Contains, Contains_from_Has, View, Shape, RoomContent, groups_in, with_taken, with_given, Gains, KnowsClosed, IsFirstOpen, closed_at, ◌⊎◌, slice_get, MayStand, path_of-below, Has}
 use Rattle.shr_node.proofs.Gaining.{gains_none, gains_then, gains_given, known_given, knows_still}

@@ -1,3 +1,4 @@
+-- SPDX-License-Identifier: GPL-2.0-only
 -- One list is closed into its parent's.
 use Rattle.shr_node.proofs.Common.{◌≡◌, ℕ, ◌+◌, ◌*◌, ◌<◌, ◌≤◌, Bool, true, false, cond, List, [], ◌∷◌, ◌++◌, length, take, sym, refl, ap, subst, ◌∙◌, arith, length-append, Contains, ◌&&◌, nat_lt, append-nil, Contains-push, Contains-append_left, Place, Entry, MovedIn, Closed, place_number, at_group, IsTree, parent_of, is_child, is_closed, moved_in, AreChildrenMovedIn, child_again, Has_from_Contains, Contains_from_Has, Listed, IsSound, View, Shape, Room, RoomContent, Holding, Known, no_rooms, group_of, beside, list_content, has_room, groups_in, IsPlaceOfShape, in_hand, with_taken, with_given, drained_after, IsTaken, IsCounted, Gains, Knows, KnowsClosed, WasOpen, WasMet, Closing, IsPair, group_place, made_by_closing, bits_by, AreBothTaken, has_taken, begins_push, begins_more, IsInHand, closed_at, taken_in_hand}
 use Rattle.shr_list.specs.Answers as answer

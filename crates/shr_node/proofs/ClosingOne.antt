@@ -1,3 +1,4 @@
+-- SPDX-License-Identifier: GPL-2.0-only
 -- What closing one list into its parent's needs and says.
 use Rattle.shr_node.proofs.Common.{◌≡◌, ℕ, ◌<◌, Bool, true, false, cond, eqb, lt-ltb, eq-eqb, inr, List, [], ◌∷◌, ◌++◌, length, sym, refl, ap, subst, ◌∙◌, arith, length-append, ◌&&◌, ◌||◌, nat_lt, Place, Closed, MovedIn, place_number, parent_of, is_child, is_closed, AreChildrenMovedIn, IsAtOrAbove-refl, Listed, IsSound, Core, View, Room, RoomContent, Holding, no_rooms, group_of, list_content, groups_in, MayTake, Seated, shape_of, view_of, IsTaken, IsCounted, with_taken, with_given, Gains, Knows, KnowsClosed, group_place, AreBothTaken, ltb, Hand}
 use Rattle.shr_model.proofs.ListLaws.{is_closed_push}

@@ -1,3 +1,4 @@
+-- SPDX-License-Identifier: GPL-2.0-only
 -- Emptying one list after another, groups in falling order.
 use Rattle.shr_node.proofs.Common.{◌≡◌, ◌≢◌, ℕ, zero, suc, ◌+◌, ◌<◌, ◌≤◌, Bool, true, false, cond, List, [], ◌∷◌, ◌++◌, length, get_or, sym, refl, ap, subst, ◌∙◌, ⊎_elim, arith, append_assoc, eq-eqb, ne_eqb, ◌==◌, ◌&&◌, slice_set, Some, append-nil, all_pairs_push, dite, ℕ_discrete, Object, Serial, Drained, Spent, place_number, Listed, Each, Each-none, Each-push, Each-weaker, View, Shape, Made, Claims, place_id, node_of, group_of, mark_of, groups_in, drained_after, Gains, WasMet, group_place, made_by_draws, drawn, DrainWorn, get_or-set_same, get_or-set_other, is_some_yes, slice_index, dec_lt, Draw, IsDraw, AreDraws, IsListDrawn, DrawsNone, IsFilled, StopsAt}
 use Rattle.shr_base.specs.declared.replies.Spent.TheVariants as spent

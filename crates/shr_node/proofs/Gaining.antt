@@ -1,3 +1,4 @@
+-- SPDX-License-Identifier: GPL-2.0-only
 -- What a seat gains while it takes a room, stores an entry there and gives the room back.
 use Rattle.shr_node.proofs.Common.{◌≡◌, ℕ, ◌+◌, ◌<◌, ◌≤◌, Bool, true, false, cond, List, [], ◌∷◌, ◌++◌, length, sym, refl, ap, subst, ◌∙◌, arith, eq-eqb, append_assoc, not_some, Contains, ◌==◌, ◌&&◌, slice_set, Option, None, append-nil, Contains-push, Contains-append_left, dite, ℕ_discrete, Object, Entry, Each, times, without, Begins, begins_push, times-without_same, times-without_other, View, Shape, place_id, node_of, group_of, mark_of, content_in, with_content, with_drained, with_taken, with_stored, with_set, with_given, half_after, owed_after, drained_after, IsCounted, Gains, Knows, bits_for, with_kept, is_some_no, begins_all, times-push_other, at_begins, without_room, is_empty, is_raised, with_raised, taken_in_hand}
 use Rattle.shr_seats.specs.Lines.{by_seat, state_after}

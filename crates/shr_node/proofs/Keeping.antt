@@ -1,3 +1,4 @@
+-- SPDX-License-Identifier: GPL-2.0-only
 -- A room whose count is stored is in hand still, with the list that was stored.
 use Rattle.shr_node.proofs.Common.{◌≡◌, ℕ, ◌<◌, Bool, true, false, cond, List, ◌∷◌, [], ◌++◌, sym, subst, arith, Object, Entry, place_number, View, Shape, Room, RoomContent, has_room, with_stored, with_set, in_hand, last_entry, IsInHand, IsRoomReady, changed_in_hand}
 use Rattle.shr_core.proofs.Rooming.{content_rooms}

@@ -1,3 +1,4 @@
+-- SPDX-License-Identifier: GPL-2.0-only
 -- Looking at the lists of a subtree from its highest group down, over open lists alone.
 use Rattle.shr_node.proofs.Common.{◌≡◌, ℕ, zero, suc, ◌+◌, ◌<◌, ◌≤◌, Bool, true, false, List, [], length, get_or, set, replicate, sym, refl, ap, subst, ◌∙◌, inl, inr, ⊎_elim, arith, length-replicate, length-set, dite, ℕ_discrete, Made, IsTree, parent_of, IsAtOrAbove, IsAtOrAbove-trans, IsAtOrAbove-le, IsAtOrAbove-refl, get_or-set_same, get_or-set_other, place_number, View, Shape, groups_in, Gains, KnowsClosed, IsKnownClosed, group_place, AreLooked, IsLookedAt, IsMarked}
 use Rattle.std.proofs.lemmas.List.{get_or-replicate}

@@ -1,3 +1,4 @@
+-- SPDX-License-Identifier: GPL-2.0-only
 -- Drain marks, and closed lists that are empty.
 use Rattle.shr_node.proofs.Common.{◌≡◌, ℕ, suc, ◌+◌, ◌<◌, Bool, true, false, cond, List, [], ◌∷◌, length, take, sym, refl, ap, ◌∙◌, arith, ◌==◌, ◌&&◌, ◌||◌, slice_set, Object, Entry, Add, Look, Drop, Pin, Scan, MovedIn, Closed, Drained, step, is_closed, Claims, place_id, node_of, group_of, mark_of, drained_after, is_some_of}
 use Rattle.shr_model.specs.Items.{items_from, later_moved, first_moved, is_closing, HasJournal}

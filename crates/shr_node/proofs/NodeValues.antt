@@ -1,3 +1,4 @@
+-- SPDX-License-Identifier: GPL-2.0-only
 -- What is made, moved, drawn and set, at known values.
 use Rattle.shr_node.proofs.Common.{◌≡◌, ℕ, false, List, [], ◌∷◌, refl, Object, MovedIn, Closed, bits_for, Closing, made_by_closing, bits_by, moved_from_group, drawn}
 

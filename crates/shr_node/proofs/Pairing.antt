@@ -1,3 +1,4 @@
+-- SPDX-License-Identifier: GPL-2.0-only
 -- A child's list is closed into its parent's, with both rooms in hand.
 use Rattle.shr_node.proofs.Common.{◌≡◌, ◌≢◌, ℕ, ◌+◌, ◌*◌, ◌<◌, ◌≤◌, Bool, true, false, cond, List, [], ◌∷◌, ◌++◌, length, sym, refl, ap, subst, ◌∙◌, arith, length-append, append_assoc, eq-eqb, ne_eqb, lt-ltb, append-nil, dite, ℕ_discrete, ◌&&◌, ◌==◌, nat_lt, Option, None, Some, Contains-push, Object, Place, Entry, MovedIn, Closed, place_number, IsTree, parent_of, step, IsOutcome, is_closed, IsAllowed, child_again, times, without, Begins, begins_push, begins_more, times-without_same, times-without_other, View, Shape, Room, group_of, beside, list_content, has_room, groups_in, IsInHand, content_in, in_hand, with_content, with_taken, with_stored, with_set, with_given, owed_after, drained_after, last_entry, moved_in_hand, IsBacked, MayStore, has_taken, inside, Gains, Knows, total, only_yes, is_room, taken_in_hand}
 use Rattle.std.proofs.lemmas.Bool.{ltb-true, eqb-true}

@@ -1,3 +1,4 @@
+-- SPDX-License-Identifier: GPL-2.0-only
 -- Acting on the list of one place, and giving its room back.
 use Rattle.shr_node.proofs.Common.{◌≡◌, ℕ, ◌<◌, ◌≤◌, Bool, false, List, [], ◌∷◌, ◌++◌, length, inl, inr, sym, refl, ap, subst, ◌∙◌, arith, true, MatchBool, ◌==◌, Some, Object, Policy, Place, Serial, Entry, place_number, IsTree, is_closed, Listed, Takes, RefusesWorn, LacksMemory, TellsScan, scan_entry, drain_entry, View, Shape, Room, Claims, no_rooms, AreBorn, list_content, groups_in, Core, Seated, IsPlaceOfShape, shape_of, view_of, with_drained, with_taken, with_given, IsTaken, IsCounted, drained_after, last_entry, Gains, Knows, with_kept, IsOpened, IsRoomReady, IsUntouched, WasMet, entry_made, Acts, LackedRoom, HadRoom, ScansPlace, eqb-true, RefusesClosed, EmptiesOne, LeavesOne, IsScanClosed, ScanIsWorn, ScanLacks}
 use Rattle.shr_core.proofs.Births.{freed_born}

@@ -1,3 +1,4 @@
+-- SPDX-License-Identifier: GPL-2.0-only
 -- Closing one list after another, groups in falling order.
 use Rattle.shr_node.proofs.Common.{◌≡◌, ℕ, suc, ◌+◌, ◌<◌, ◌≤◌, Bool, true, false, cond, List, [], ◌∷◌, ◌++◌, length, sym, refl, ap, subst, ◌∙◌, inr, arith, append_assoc, eq-eqb, ne_eqb, ◌==◌, append-nil, all_pairs_push, slice_index_or, dite, ℕ_discrete, Spent, place_number, Listed, IsTree, is_child, parent_of, IsAtOrAbove, child_takes, child_higher, IsAtOrAbove-refl, IsAtOrAbove-le, Each, Each-none, Each-push, Each-weaker, View, Shape, Made, groups_in, Gains, IsKnownClosed, KnowsClosed, AreLooked, IsMarked, WasMet, Closing, group_place, made_by_closing, bits_by, moved_from_group, IsPair, SpliceWorn, IsChild}
 use Rattle.shr_base.specs.declared.replies.Spent.TheVariants as spent

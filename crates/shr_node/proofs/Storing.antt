@@ -1,3 +1,4 @@
+-- SPDX-License-Identifier: GPL-2.0-only
 -- The child's list and its parent's once the objects moved, and the steps that store them.
 use Rattle.shr_node.proofs.Common.{◌≡◌, ◌≤◌, ◌&&◌, nat_lt, Bool, false, cond, [], length, Contains, Closed, place_number, is_closed, moved_in, AreChildrenMovedIn, Listed, View, Shape, Room, with_stored, with_set, last_entry, AreBothTaken, with_both_left}
 use Rattle.shr_list.specs.Answers as answer

@@ -1,3 +1,4 @@
+-- SPDX-License-Identifier: GPL-2.0-only
 -- What the calls on one list answer, and what their seat gains. An entry and what is so of a list
 -- are functions of the list as it was in hand.
 use Rattle.std.specs.Prelude.{◌≡◌, ℕ, Bool, not, Option, List, [], ◌∷◌, ◌++◌, length, option_map}

@@ -1,3 +1,4 @@
+-- SPDX-License-Identifier: GPL-2.0-only
 -- What closing one list into its parent's answers.
 use Rattle.std.specs.Prelude.{◌≡◌, ℕ, [], length}
 use Rattle.shr_base.specs.declared.replies.Spent.{Spent}

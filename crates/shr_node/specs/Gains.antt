@@ -1,3 +1,4 @@
+-- SPDX-License-Identifier: GPL-2.0-only
 -- What a call adds to its seat's view, and what it leaves as it was.
 use Rattle.std.specs.Prelude.{◌≡◌, ℕ, List, [], ◌∷◌, length, cond, ◌==◌, ◌&&◌, nat_lt, Bool, true, Contains, None}
 use Rattle.shr_base.specs.declared.objects.Object.{Object}

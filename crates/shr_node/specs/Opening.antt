@@ -1,3 +1,4 @@
+-- SPDX-License-Identifier: GPL-2.0-only
 -- The list on which a call acts.
 use Rattle.std.specs.Prelude.{◌≡◌, ℕ, ◌<◌, [], length, false, None}
 use Rattle.shr_base.specs.declared.places.Place.{Place}

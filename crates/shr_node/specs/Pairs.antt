@@ -1,3 +1,4 @@
+-- SPDX-License-Identifier: GPL-2.0-only
 -- A child's room and its parent's in one hand. No public clause cites this.
 use Rattle.std.specs.Prelude.{◌≡◌, ◌<◌}
 use Rattle.shr_base.specs.declared.places.Place.{Place}

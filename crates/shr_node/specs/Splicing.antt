@@ -1,3 +1,4 @@
+-- SPDX-License-Identifier: GPL-2.0-only
 -- What closing the lists of a subtree makes.
 use Rattle.std.specs.Prelude.{◌≡◌, ℕ, ◌+◌, ◌<◌, ◌≤◌, List, [], ◌∷◌, ◌++◌, length, cond, ◌==◌, ◌&&◌, true, nat_lt, slice_index, AllPairs, Contains}
 use Rattle.shr_base.specs.declared.objects.Object.{Object}

@@ -1,3 +1,4 @@
+// SPDX-License-Identifier: GPL-2.0-only
 //! What the calls answer.
 
 use shr_base::log::Log;
@@ -70,7 +71,7 @@ pub enum SpliceAnswer {
     Memory,
 }
 
-/// What `drain` answers. Our own.
+/// What `drain` answers.
 #[derive(Clone, Copy, Debug, PartialEq, Eq)]
 pub enum NodeDrain {
     /// No list of the id on the node holds an object.

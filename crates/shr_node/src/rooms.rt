@@ -1,3 +1,4 @@
+// SPDX-License-Identifier: GPL-2.0-only
 //! Taking the room of the first open list, and giving a room back with one entry more.
 
 ghost use Rattle.std.specs.Prelude.{◌≡◌, ◌==◌, ◌<◌, ◌≤◌, ◌&&◌, cond, true, length};
@@ -29,7 +30,7 @@ pub(crate) fn parent(core: &Core, group: u16) -> u16
     core.shape().parents.as_slice()[group as usize]
 }
 
-/// The report of a list without room: it would have had these numbers. Our own.
+/// The report of a list without room: it would have had these numbers.
 pub(crate) fn list_spent(place: Place, entries: u32, items: u32) -> Spent
     ensures { result ≡ spent.List place entries items }
 {
@@ -99,7 +100,7 @@ pub(crate) fn keep(seat: &mut Seat<'_>, room: Room, was_empty: bool)
     seat.give_room(room);
 }
 
-/// Gives a room back whose list is as it was. Our own.
+/// Gives a room back whose list is as it was.
 #[inline(always)]
 pub(crate) fn leave(seat: &mut Seat<'_>, room: Room)
     requires untouched { IsUntouched (shape_of seat.old.core) (view_of seat.old) room }
@@ -110,14 +111,14 @@ pub(crate) fn leave(seat: &mut Seat<'_>, room: Room)
     seat.give_room(room);
 }
 
-/// What a list was before a call acted on it. Our own.
+/// What a list was before a call acted on it.
 #[derive(Clone, Copy)]
 pub(crate) struct Before {
     was_empty: bool,
     entries: usize,
 }
 
-/// Looks at a list before a call acts on it. Our own.
+/// Looks at a list before a call acts on it.
 pub(crate) fn before_call(list: &List) -> Before
     ensures empty { result.was_empty ≡ (length list.now.items == 0) }
     ensures entries { result.entries ≡ length list.now.entries }
@@ -128,7 +129,7 @@ pub(crate) fn before_call(list: &List) -> Before
     }
 }
 
-/// Gives a room back whose list has one entry more than before, or is as it was. Our own.
+/// Gives a room back whose list has one entry more than before, or is as it was.
 pub(crate) fn give_back(seat: &mut Seat<'_>, room: Room, before: Before)
     requires ready { before.entries < length room.list.entries → IsRoomReady (shape_of seat.old.core)
         (view_of seat.old) room }

@@ -1,3 +1,4 @@
+// SPDX-License-Identifier: GPL-2.0-only
 //! Closing the lists of a group and of those below it, each into its parent's.
 
 ghost use Rattle.std.specs.Prelude.{◌≡◌, ◌==◌, ◌<◌, ◌≤◌, ◌&&◌, ℕ, [], length, nat_lt, slice_index, slice_index_or, true, false};
@@ -36,7 +37,7 @@ pub struct Children {
     pub count: usize,
 }
 
-/// Finds the children of a group. Our own.
+/// Finds the children of a group.
 pub fn children_of(core: &Core, group: u16) -> Children
     ensures children { AreChildren (shape_of core.now).parents.items group result }
 {

@@ -1,3 +1,4 @@
+// SPDX-License-Identifier: GPL-2.0-only
 //! What a tenant does with one object of a cache, by its birth group and key.
 //!
 //! Each call acts on the first list, from the birth group up, that is not closed: a closed list's
@@ -22,7 +23,7 @@ use shr_list::answers::{AddAnswer, DropAnswer, LookAnswer, PinAnswer};
 use std::sync::Wait;
 
 /// What a tenant's call is about, but for the key: the id and node of the lists that it may act on,
-/// the command that makes it, and the group that its object was born in. Our own.
+/// the command that makes it, and the group that its object was born in.
 #[derive(Clone, Copy, Debug, PartialEq, Eq)]
 pub struct TenantCall {
     pub id: u16,

@@ -1,3 +1,4 @@
+-- SPDX-License-Identifier: GPL-2.0-only
 -- Carries one after another.
 use Rattle.shr_offline.proofs.Common.{◌≡◌, ℕ, ◌+◌, ◌%◌, List, [], ◌∷◌, ◌++◌, refl, sym, ap, ◌∙◌, arith, subst, map-range_with_len_more, Place, Serial, Carry, Shape, DeferredSeated, GainsMoves, first_places, place_by_number, AreCarried, carry_move, carries_noted, ◌^◌, map, append_assoc, sum, above_of, carry_moves, carry_noted, amount_taken}
 use Rattle.std.proofs.lemmas.List.{append-nil, map_push}

@@ -1,3 +1,4 @@
+-- SPDX-License-Identifier: GPL-2.0-only
 -- The seats after each step of handing over, and their states.
 use Rattle.shr_offline.proofs.Common.{◌≡◌, ℕ, [], refl, ap, subst, Serial, Carry, IsIdle, view_of, shape_of, DoneAnswer, DeferredSeated, Shared, state_of, SpliceAnswer, AreSpliced, AllGives, all_places, count_of_places, AreCarried, HandsOver}
 use Rattle.shr_base.specs.Kept.{Kept}

@@ -1,3 +1,4 @@
+-- SPDX-License-Identifier: GPL-2.0-only
 -- What stays and what is known over splices, and the states between the steps of handing over.
 use Rattle.shr_offline.proofs.Common.{◌≡◌, ℕ, suc, ◌+◌, ◌*◌, ◌/◌, ◌%◌, List, [], ◌∷◌, length, refl, sym, ap, subst, ◌∙◌, arith, None, Place, View, Shape, Claims, IsIdle, SpliceAnswer, IsSpliced, AreSpliced, AllGives, first_places, all_places, count_of_places, place_by_number, zero, ◌<◌, get_or, Contains, get_or-map-range_with_len, length-map-range_with_len, Known, OwesNoMore, group_place, AreClosed}
 use Rattle.std.proofs.Math.Nat.{div-lt_iff_lt-mul, div-add-mod}

@@ -1,3 +1,4 @@
+-- SPDX-License-Identifier: GPL-2.0-only
 -- Splices one after another.
 use Rattle.shr_offline.proofs.Common.{ℕ, suc, ◌+◌, ◌≤◌, Bool, List, [], ◌∷◌, ◌++◌, length, refl, sym, subst, arith, map-range_with_len_more, Place, View, Shape, IsSpliced, AreSpliced, first_places, place_by_number, true, false, cond, ◌==◌, Closing, IsClosing, moved_from_group}
 use Rattle.shr_seats.specs.Views.{Each}

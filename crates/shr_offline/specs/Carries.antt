@@ -1,3 +1,4 @@
+-- SPDX-License-Identifier: GPL-2.0-only
 -- What carrying a group's deferred work to its parent's places moves.
 use Rattle.std.specs.Prelude.{◌≡◌, ℕ, ◌%◌, ◌^◌, ◌==◌, cond, List, [], ◌∷◌, ◌++◌, map, flat_map, sum}
 use Rattle.shr_base.specs.declared.ends.PlaceAmount.{PlaceAmount}

@@ -1,3 +1,4 @@
+// SPDX-License-Identifier: GPL-2.0-only
 //! What taking a group offline answers.
 
 use shr_base::replies::Spent;

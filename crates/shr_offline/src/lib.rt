@@ -1,3 +1,4 @@
+// SPDX-License-Identifier: GPL-2.0-only
 //! Taking a group offline: its lists and its deferred work go to its parent.
 #![tactic(auto)]
 

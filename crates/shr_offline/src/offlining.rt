@@ -1,3 +1,4 @@
+// SPDX-License-Identifier: GPL-2.0-only
 //! Taking a group offline.
 
 ghost use Rattle.std.specs.Prelude.{◌<◌, ◌≤◌, IsSome};

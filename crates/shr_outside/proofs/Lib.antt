@@ -1,3 +1,4 @@
+-- SPDX-License-Identifier: GPL-2.0-only
 pub mod Bytes
 pub mod Sending
 pub mod Printing

@@ -1,3 +1,4 @@
+-- SPDX-License-Identifier: GPL-2.0-only
 -- Parts of a text that are printed one after the other.
 use Rattle.std.proofs.Common.{◌≡◌, ℕ, List, [], ◌++◌, Option, sym, ◌∙◌, append_assoc}
 use Rattle.shr_outside.specs.declared.paper.Paper.{Paper}

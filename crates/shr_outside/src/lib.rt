@@ -1,3 +1,4 @@
+// SPDX-License-Identifier: GPL-2.0-only
 //! The outside: sources of bytes, sinks of bytes, and the gate before each command.
 #![tactic(auto)]
 

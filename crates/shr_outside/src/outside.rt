@@ -1,9 +1,10 @@
-//! The outside: a source of bytes, a sink of bytes, and a gate before each command. Our own.
+// SPDX-License-Identifier: GPL-2.0-only
+//! The outside: a source of bytes, a sink of bytes, and a gate before each command.
 
 ghost use Rattle.std.specs.Prelude.{◌<◌, ℕ, List, length, Option};
 ghost use Rattle.shr_outside.specs.Outside.{TakesBytes, GivesBytes};
 
-/// What a source answers. Our own.
+/// What a source answers.
 #[derive(Clone, Copy, Debug, PartialEq, Eq)]
 pub enum Took {
     /// This many bytes stand in the front of the buffer, from 1 to its length.
@@ -14,7 +15,7 @@ pub enum Took {
     Failed,
 }
 
-/// What a sink answers. Our own.
+/// What a sink answers.
 #[derive(Clone, Copy, Debug, PartialEq, Eq)]
 pub enum Gave {
     /// This many bytes of the piece were taken, from 1 to its length if the piece isn't empty.
@@ -23,7 +24,7 @@ pub enum Gave {
     Failed,
 }
 
-/// A source of bytes. Our own.
+/// A source of bytes.
 pub trait Source {
     /// The bytes that are left, if it tells them.
     ghost left: { Self → Option (List ℕ) };
@@ -41,7 +42,7 @@ pub trait Source {
             (faults self.old) (faults self.new) into.new result };
 }
 
-/// A sink of bytes. Our own.
+/// A sink of bytes.
 pub trait Sink {
     /// The bytes written, if it tells them.
     ghost written: { Self → Option (List ℕ) };
@@ -58,7 +59,7 @@ pub trait Sink {
 /// What is called before each command of each worker, with the numbers of both. In a script with a
 /// sweep each helper calls it too, before its first job, with the number of its worker's commands
 /// as the command; a helper without memory for its answer takes no job and doesn't call it. The
-/// program's does nothing; a test's may look at the other workers. Our own.
+/// program's does nothing; a test's may look at the other workers.
 pub trait Gate {
     fn before(&self, worker: u16, command: u32);
 }

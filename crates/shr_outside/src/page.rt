@@ -1,3 +1,4 @@
+// SPDX-License-Identifier: GPL-2.0-only
 //! A page of bytes.
 
 ghost use Rattle.std.specs.Prelude.{◌≡◌, ◌↔◌, ◌≤◌, ◌+◌, [], ◌++◌, true, length, take, MatchBool};
@@ -8,7 +9,7 @@ use std::marker::Model;
 const ROOM: usize = 16_384;
 
 /// Up to 16,384 bytes, which contracts see as their list. It takes no memory of the heap, and is
-/// emptied without a write. Our own.
+/// emptied without a write.
 #[derive(Drop)]
 pub struct Page {
     bytes: [u8; ROOM],
@@ -38,7 +39,7 @@ fn copy_in(into: &mut [u8], at: usize, bytes: &[u8])
 }
 
 impl Page {
-    /// An empty page. Our own.
+    /// An empty page.
     pub fn new() -> Page
         ensures { result ≡ [] }
     {
@@ -49,7 +50,6 @@ impl Page {
     }
 
     /// Puts bytes behind those that are there, if there is room, and answers whether there was.
-    /// Our own.
     #[tactic(auto, using(crate::proofs::Bytes::front_length))]
     #[inline(always)]
     pub fn put(&mut self, bytes: &[u8]) -> bool
@@ -64,14 +64,14 @@ impl Page {
         true
     }
 
-    /// Takes all bytes away. Our own.
+    /// Takes all bytes away.
     pub fn clear(&mut self)
         ensures { self.new ≡ [] }
     {
         self.len = 0;
     }
 
-    /// The bytes. Our own.
+    /// The bytes.
     pub fn bytes(&self) -> &[u8]
         ensures { result.now ≡ self.now }
     {

@@ -1,3 +1,4 @@
+// SPDX-License-Identifier: GPL-2.0-only
 //! Printing to a sink by the page.
 
 ghost use Rattle.std.specs.Prelude.{◌≡◌, [], false, List, ℕ};
@@ -9,7 +10,7 @@ use crate::writing::write_all;
 
 /// A sink, and the bytes that it has not got yet: text is put on a page, and the sink gets it a page
 /// at a time. It takes no memory, and a sink that has failed once gets nothing more: the bytes that
-/// are put there later are gone, and `finish` tells it. Our own.
+/// are put there later are gone, and `finish` tells it.
 #[derive(Drop)]
 pub struct Paper<'a, K> {
     sink: &'a mut K,
@@ -29,7 +30,7 @@ fn send<K: Sink>(sink: &mut K, failed: bool, bytes: &[u8]) -> bool
 }
 
 impl<'a, K: Sink> Paper<'a, K> {
-    /// Nothing is put there yet. Our own.
+    /// Nothing is put there yet.
     #[tactic(auto, unfolding(crate::specs::Paper::IsLeft))]
     pub fn new(sink: &'a mut K) -> Paper<'a, K>
         ensures same { result.sink.ghost_name ≡ sink.entry.ghost_name }
@@ -57,7 +58,7 @@ impl<'a, K: Sink> Paper<'a, K> {
         self.page.clear();
     }
 
-    /// Puts bytes there. Our own.
+    /// Puts bytes there.
     #[tactic(auto, unfolding(crate::specs::Paper::IsLeft))]
     pub fn put(&mut self, bytes: &[u8])
         ensures { Prints K.written K.faults self.old self.new bytes.now }
@@ -80,7 +81,6 @@ impl<'a, K: Sink> Paper<'a, K> {
     }
 
     /// Hands the sink what it has not got yet, and tells whether it has got all that was put there.
-    /// Our own.
     pub fn finish(&mut self) -> bool
         ensures same { self.new.sink.ghost_name ≡ self.old.sink.ghost_name }
         ensures ends { Ends K.written K.faults self.old self.new.sink.now result }

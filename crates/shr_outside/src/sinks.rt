@@ -1,4 +1,5 @@
-//! Sinks in memory, and the real one. Our own.
+// SPDX-License-Identifier: GPL-2.0-only
+//! Sinks in memory, and the real one.
 
 ghost use Rattle.std.specs.Prelude.{◌≡◌, ◌+◌, ◌-◌, ◌^◌, ◌<◌, min, Contains, Some, None, vec_capacity};
 ghost use Rattle.shr_outside.specs.Fakes.{FailsAsTold, TakesAtMost, faults_by_give};
@@ -9,7 +10,7 @@ use std::io::Write;
 use std::marker::Model;
 
 /// Bytes in memory, taken in pieces of a greatest size. The calls of given numbers, counted from 1,
-/// fail, and those for which there is no memory. Our own.
+/// fail, and those for which there is no memory.
 #[derive(Drop)]
 pub struct MemorySink {
     bytes: Vec<u8>,
@@ -30,7 +31,7 @@ impl Model for MemorySink {
 
 impl MemorySink {
     /// A sink that appends to these bytes, and takes at most `most` of them a call, one where
-    /// `most` is 0. Our own.
+    /// `most` is 0.
     pub fn new(bytes: Vec<u8>, most: usize, failing: Vec<usize>) -> MemorySink
         ensures { result ≡ record {
           written = bytes.items;
@@ -50,7 +51,7 @@ impl MemorySink {
         }
     }
 
-    /// The bytes written. Our own.
+    /// The bytes written.
     pub fn bytes(&self) -> &[u8]
         ensures { result.now ≡ self.now.written }
     {
@@ -90,7 +91,7 @@ impl Sink for MemorySink {
     }
 }
 
-/// A sink that never fails: it takes every byte, and keeps and tells none. Our own.
+/// A sink that never fails: it takes every byte, and keeps and tells none.
 #[derive(Clone, Copy, Debug, PartialEq, Eq)]
 pub struct HonestSink {
     most: usize,
@@ -107,7 +108,7 @@ impl Model for HonestSink {
 }
 
 impl HonestSink {
-    /// A sink that takes at most `most` bytes a call, one where `most` is 0. Our own.
+    /// A sink that takes at most `most` bytes a call, one where `most` is 0.
     pub fn new(most: usize) -> HonestSink
         ensures { result ≡ most }
     {
@@ -132,7 +133,7 @@ impl Sink for HonestSink {
 }
 
 /// A writer, and how often it has failed. A writer that takes nothing of a piece that isn't empty
-/// has failed. Where a writer tells no bytes, what it took is trusted. Our own.
+/// has failed. Where a writer tells no bytes, what it took is trusted.
 #[derive(Drop)]
 pub struct StdSink<W> {
     inner: W,
@@ -148,7 +149,7 @@ impl<W> Model for StdSink<W> {
 }
 
 impl<W> StdSink<W> {
-    /// A sink over a writer that hasn't failed yet. Our own.
+    /// A sink over a writer that hasn't failed yet.
     pub fn new(inner: W) -> StdSink<W>
         ensures { result ≡ record { inner = inner; faults = 0 } }
     {

@@ -1,4 +1,5 @@
-//! Sources in memory, and the real one. Our own.
+// SPDX-License-Identifier: GPL-2.0-only
+//! Sources in memory, and the real one.
 
 ghost use Rattle.std.specs.Prelude.{◌≡◌, ◌↔◌, ◌+◌, ◌-◌, ◌^◌, ◌<◌, ◌≤◌, length, take, min, max, Contains, Some};
 ghost use Rattle.shr_outside.specs.Fakes.{GivesAtMost, faults_by_take};
@@ -9,7 +10,7 @@ use std::io::Read;
 use std::marker::Model;
 
 /// Bytes in memory, given in pieces of a greatest size. The calls of given numbers, counted from 1,
-/// fail. Our own.
+/// fail.
 #[derive(Drop)]
 pub struct MemorySource {
     bytes: Vec<u8>,
@@ -34,7 +35,6 @@ impl Model for MemorySource {
 
 impl MemorySource {
     /// A source of these bytes that gives at most `most` of them a call, one where `most` is 0.
-    /// Our own.
     pub fn new(bytes: Vec<u8>, most: usize, failing: Vec<usize>) -> MemorySource
         ensures { result ≡ record {
           left = bytes.items;
@@ -107,7 +107,7 @@ impl Source for MemorySource {
     }
 }
 
-/// Bytes in memory that never fail. Our own.
+/// Bytes in memory that never fail.
 #[derive(Drop)]
 pub struct HonestSource {
     bytes: Vec<u8>,
@@ -129,7 +129,6 @@ impl Model for HonestSource {
 
 impl HonestSource {
     /// A source of these bytes that gives at most `most` of them a call, one where `most` is 0.
-    /// Our own.
     pub fn new(bytes: Vec<u8>, most: usize) -> HonestSource
         ensures { result ≡ record { left = bytes.items; most = most; turns = 0 } }
     {
@@ -169,7 +168,7 @@ impl Source for HonestSource {
 }
 
 /// A reader, how often it has given bytes, and how often it has failed. A reader that gives no byte for a buffer that isn't empty
-/// is at its end. Where a reader tells no bytes, what it gave is trusted. Our own.
+/// is at its end. Where a reader tells no bytes, what it gave is trusted.
 #[derive(Drop)]
 pub struct StdSource<R> {
     inner: R,
@@ -186,7 +185,7 @@ impl<R> Model for StdSource<R> {
 }
 
 impl<R> StdSource<R> {
-    /// A source over a reader that hasn't failed yet. Our own.
+    /// A source over a reader that hasn't failed yet.
     pub fn new(inner: R) -> StdSource<R>
         ensures { result ≡ record { inner = inner; turns = 0; faults = 0 } }
     {

@@ -1,3 +1,4 @@
+-- SPDX-License-Identifier: GPL-2.0-only
 -- What stays of a shrinker's meanings over its calls.
 use Rattle.std.specs.Prelude.{◌≡◌, ℕ, ◌%◌, ◌^◌, ◌↔◌, List, Option}
 use Rattle.shr_base.specs.declared.places.Place.{Place}

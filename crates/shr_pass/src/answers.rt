@@ -1,3 +1,4 @@
+// SPDX-License-Identifier: GPL-2.0-only
 //! What the calls answer.
 
 use shr_base::replies::Spent;

@@ -1,3 +1,4 @@
+-- SPDX-License-Identifier: GPL-2.0-only
 -- The sizes of the tables.
 use Rattle.shr_plain.proofs.Common.{ℕ, ◌<◌, ◌≤◌, eqb, cond, arith, nat_tests}
 

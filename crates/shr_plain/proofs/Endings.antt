@@ -1,3 +1,4 @@
+-- SPDX-License-Identifier: GPL-2.0-only
 -- The rooms at the end.
 use Rattle.shr_plain.proofs.Common.{◌≡◌, ℕ, ◌+◌, ◌<◌, true, false, suc, List, [], ◌++◌, sym, refl, ap, subst, ◌∙◌, arith, Final, Seen, PlainEntry, row_count, Sizes, Slot, View, units_ends, entries_at, IsPools, units, room_journal, parts_in, units_standing_in, spent_units_view, part_of, place_of_row}
 use mathlib.Core.Option.{Option, some}

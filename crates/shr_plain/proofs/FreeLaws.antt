@@ -1,3 +1,4 @@
+-- SPDX-License-Identifier: GPL-2.0-only
 -- Journals of units with one entry more.
 use Rattle.shr_plain.proofs.Common.{◌≡◌, ℕ, ◌≤◌, List, [], ◌∷◌, ◌++◌, sym, refl, subst, arith, append_assoc, append-nil, PlainEntry, Release, Grab, Reclaim, free_of, IsPlainEntry, fold, free_after, IsPlainJournal}
 use Rattle.shr_model.specs.Follow.{Follow}

@@ -1,3 +1,4 @@
+-- SPDX-License-Identifier: GPL-2.0-only
 -- Taking a room, having it in hand, and giving it back.
 use Rattle.shr_plain.proofs.Common.{◌≡◌, ◌≢◌, ℕ, ◌+◌, ◌*◌, ◌<◌, ◌%◌, ◌/◌, ◌^◌, ◌++◌, true, false, eqb, List, [], ◌∷◌, refl, sym, ap, subst, ◌∙◌, Allows, rest, PlainEntry, row_count, Sizes, RoomView, with_room_given, with_room_stored, IsTold, here, Slot, View, IsPools, units, room_journal, parts_in, units_standing_in, spent_units_view, with_parts, with_part, part_of, UnitsSat, TakesUnitsRoom, Looked, Put, Counts, with_room_hand, twice, HoldsUnitsRoom, Changes, UnitSeat, dite, ℕ_discrete, eq-eqb, ne_eqb}
 use Rattle.std.specs.Prelude.{MatchBool}

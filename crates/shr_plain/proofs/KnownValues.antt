@@ -1,3 +1,4 @@
+-- SPDX-License-Identifier: GPL-2.0-only
 -- Pools and the ends of their journals at known values.
 use Rattle.shr_plain.proofs.Common.{◌≡◌, ◌==◌, cond, true, false, List, [], ◌∷◌, refl, arith, PlainEntry, Release, Grab, Serial, Sizes, IsJournalWorn, IsSetting, room_of, Setting, lit≤, sizes_for, home_node, IsPoolOf}
 use Rattle.shr_base.specs.declared.replies.Spent.TheVariants as spent

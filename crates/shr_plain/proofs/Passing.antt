@@ -1,3 +1,4 @@
+-- SPDX-License-Identifier: GPL-2.0-only
 -- What one pass over a pool did, from what the pass says of a shrinker.
 use Rattle.shr_plain.proofs.Common.{◌≡◌, ℕ, suc, ◌<◌, ◌≤◌, cond, List, [], ◌∷◌, ◌++◌, length, map, take, sym, refl, ap, subst, ◌∙◌, arith, append_assoc, eq-eqb, Option, Some, None, ◌==◌, ◌&&◌, cons_option, append-nil, filter_map-append, Place, PlainEntry, Release, Grab, Reclaim, Count, PassAnswer, ScanAnswer, ScanSeen, MatchPass, Scans, asks_due, Each, Each-none, RoomMade, RoomCount, RoomView, IsRecent, Setting, plain_seated, ActsPlain, DeferredSeated, Kept, PlainWalk, Standing, units_kind, counts_seen, units_scan_by, scans_of, IsReclaimOf, KeepsUnits, TellsUnits, part_of, UnitSeat, PassGives, zero, append_cancel_left, map-append, EndedBy, CountedBetween, count_of, moves_by, Each-weaker, EndsBy, AreScans}
 use Rattle.shr_base.specs.declared.walks.Ending.{Ending}

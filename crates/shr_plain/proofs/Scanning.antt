@@ -1,3 +1,4 @@
+-- SPDX-License-Identifier: GPL-2.0-only
 -- One count and one scan of a pool on a node.
 use Rattle.shr_plain.proofs.Common.{◌≡◌, ◌≢◌, ℕ, ◌<◌, ◌≤◌, cond, Bool, true, false, List, [], ◌∷◌, ◌++◌, length, sym, refl, ap, subst, ◌∙◌, arith, eq-eqb, ◌==◌, ◌&&◌, Option, Some, None, cons_option, nat_tests, append-nil, filter_map-append, Place, PlainEntry, Reclaim, Count, ScanSeen, ScanAnswer, Each-none, RoomMade, RoomCount, RoomView, with_known, with_entry, IsTold, IsRecent, here, there, units_kind, counts_seen, units_scan_by, scans_of, IsReclaimOf, KeepsUnits, TellsUnits, units, with_part, part_of, UnitSeat, UnitsSat, Looked, Put, Counts, ne_eqb, nat_le, map_push, begins_all, begins_more, begins_push, Each-one, with_room_count, IsCount, WalksUnits, ReclaimGives}
 use Rattle.shr_pass.specs.declared.answers.Count.TheVariants as kinds

@@ -1,3 +1,4 @@
+-- SPDX-License-Identifier: GPL-2.0-only
 -- A seat after it looked at a room or put an entry into it.
 use Rattle.shr_plain.proofs.Common.{◌≡◌, ◌≢◌, ℕ, ◌<◌, ◌≤◌, false, List, [], length, sym, refl, ap, subst, ◌∙◌, arith, dite, ℕ_discrete, PlainEntry, RoomView, with_known, with_entry, here, there, part_joined, units, with_part, part_of, split_units_view, joined_units_view, UnitSeat, PlainState, IsPlainSeat, PlainSeated, plain_seated, ActsPlain, DeferredSeated, Kept, PlainWalk, Standing, map-append, UnitsSat, Changes, Looked, Put, Makes, IsJournalWorn, Place, free_of, row_count, Sizes, IsTold, IsUnitSeatOf, Sees, row_of}
 use Rattle.shr_plain.specs.declared.table.Pools.{Pools}

@@ -1,3 +1,4 @@
+-- SPDX-License-Identifier: GPL-2.0-only
 -- Tries of pools, one more at a time.
 use Rattle.shr_plain.proofs.Common.{◌≡◌, ℕ, ◌+◌, ◌≤◌, List, [], ◌∷◌, ◌++◌, length, sym, ap, ◌∙◌, refl, subst, arith, Serial, PlainTry, PassAnswer, MatchPass, Sizes, Setting, PlainState, TryGives, AreTried, answer_of, units_freed, try_of, PassGives, setting_of, home_place, room_of, ActsPlain, PlainSeated, PlainWalk}
 use Rattle.std.specs.Prelude.{◌-◌}

@@ -1,3 +1,4 @@
+-- SPDX-License-Identifier: GPL-2.0-only
 -- What a pool on a node means as a shrinker, by a seat at its room.
 use Rattle.std.specs.Prelude.{◌≡◌, ◌≢◌, ℕ, ◌&&◌, ◌==◌, nat_le, cond, min, List, [], ◌++◌, map, filter_map, Option, Some, None}
 use Rattle.shr_base.specs.declared.places.Place.{Place}

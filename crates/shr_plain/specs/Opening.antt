@@ -1,3 +1,4 @@
+-- SPDX-License-Identifier: GPL-2.0-only
 -- What the tables are made of.
 use Rattle.std.specs.Prelude.{◌≡◌, ℕ, ◌==◌, cond, List, map, length}
 use Rattle.shr_base.specs.declared.scripts.PoolDecl.{PoolDecl}

@@ -1,3 +1,4 @@
+-- SPDX-License-Identifier: GPL-2.0-only
 -- Which pools there are, and where their units are.
 use Rattle.std.specs.Prelude.{ℕ, ◌<◌, ◌≤◌, false, cond, List, length, slice_index_or}
 use Rattle.shr_base.specs.declared.places.Place.{Place}

@@ -1,3 +1,4 @@
+-- SPDX-License-Identifier: GPL-2.0-only
 -- What a seat of the table of rooms has and knows, while it has a room in hand and after.
 use Rattle.std.specs.Prelude.{◌≡◌, ℕ, List, [], ◌∷◌}
 use Rattle.atomic_table.specs.Table.{Me}

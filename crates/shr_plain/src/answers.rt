@@ -1,8 +1,9 @@
+// SPDX-License-Identifier: GPL-2.0-only
 //! What the calls answer.
 
 use shr_base::replies::Spent;
 
-/// What a release is answered. Our own.
+/// What a release is answered.
 #[derive(Clone, Copy, Debug, PartialEq, Eq)]
 pub enum ReleaseAnswer {
     /// With these units more than 20,000 would be free: after so many entries so many were.
@@ -15,7 +16,7 @@ pub enum ReleaseAnswer {
     Released { entry: u32 },
 }
 
-/// What a grab is answered. Our own.
+/// What a grab is answered.
 #[derive(Clone, Copy, Debug, PartialEq, Eq)]
 pub enum GrabAnswer {
     /// The journal has no room for another entry.

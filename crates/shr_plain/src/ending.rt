@@ -1,3 +1,4 @@
+// SPDX-License-Identifier: GPL-2.0-only
 //! The tables at the end.
 
 ghost use Rattle.std.specs.Prelude.{◌≡◌, ℕ, ◌<◌, ◌≤◌, ◌++◌, map, true, false, IfOk, OnOk, slice_index_or};
@@ -18,7 +19,7 @@ use shr_seats::rows::Sizes;
 use std::alloc::Global;
 
 /// What the tables leave: each pool and node with a journal, by pool and node, and the deferred
-/// amounts that aren't 0, whose places have the pool as id and group 0. Our own.
+/// amounts that aren't 0, whose places have the pool as id and group 0.
 #[derive(Drop)]
 pub struct PoolsEnd {
     pub units: Log<UnitsEnd>,
@@ -82,7 +83,7 @@ fn take_ends(
 impl Pools {
     /// Ends both tables, and gives each journal with its free units, and what is still deferred. By
     /// then all other seats were joined into the first one, whose view has each entry. On `Memory`
-    /// the tables are gone too. Our own.
+    /// the tables are gone too.
     pub fn finish(self, first: FirstPlainSeat) -> Result<PoolsEnd, Memory>
         requires first { IsFirstPlainOf self first }
         requires whole { IsLastSeat (first_plain_standing first) }

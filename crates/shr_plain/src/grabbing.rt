@@ -1,3 +1,4 @@
+// SPDX-License-Identifier: GPL-2.0-only
 //! Grabbing a unit of a pool.
 
 ghost use Rattle.shr_plain.specs.Answers.{GrabGives};

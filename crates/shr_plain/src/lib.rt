@@ -1,3 +1,4 @@
+// SPDX-License-Identifier: GPL-2.0-only
 //! Pools of units that know no groups: releasing units, grabbing one, and the walk that reclaims
 //! them.
 //!

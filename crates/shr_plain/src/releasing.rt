@@ -1,3 +1,4 @@
+// SPDX-License-Identifier: GPL-2.0-only
 //! Releasing units to a pool.
 
 ghost use Rattle.std.specs.Prelude.{◌≤◌};
@@ -12,10 +13,10 @@ use shr_base::places::Serial;
 use shr_base::replies::Spent;
 use std::sync::Wait;
 
-/// The most units that may be free in a pool on a node. Our own.
+/// The most units that may be free in a pool on a node.
 pub const MOST_FREE: u32 = 20_000;
 
-/// The most entries of the journal of a pool on a node. Our own.
+/// The most entries of the journal of a pool on a node.
 pub const MOST_ENTRIES: u32 = 1 << 31;
 
 impl<'a> PlainSeat<'a> {

@@ -1,3 +1,4 @@
+// SPDX-License-Identifier: GPL-2.0-only
 //! The rooms: counting, taking one, putting an entry into its journal, and giving it back.
 
 ghost use Rattle.std.specs.Prelude.{◌≡◌, ◌+◌, ◌*◌, ◌<◌, ◌≤◌, ◌%◌, ◌/◌, ◌^◌, true, [], ◌∷◌, ◌++◌, length, MatchBool};
@@ -64,7 +65,7 @@ impl Pools {
         self.lock_as::<Brand>(seat, WORDS_A_ROOM * room, room) == 0
     }
 
-    /// Waits for a room, and takes what it holds out of it. Our own.
+    /// Waits for a room, and takes what it holds out of it.
     pub(crate) fn take<R: Wait>(&self, rt: &R, seat: &mut UnitSeat, room: usize) -> Slot
         requires seat { IsUnitSeatOf self.now seat.old }
         requires room { room < row_count self.now.sizes }
@@ -109,7 +110,7 @@ impl Pools {
         self.store_as::<Brand>(seat, WORDS_A_ROOM * room + 1, new, room, entry);
     }
 
-    /// Gives a room back with what it holds. Our own.
+    /// Gives a room back with what it holds.
     pub(crate) fn give(&self, seat: &mut UnitSeat, room: usize, slot: Slot)
         requires seat { IsSeatOf self.now.table.shared.table_id seat.old.table_id
             seat.old.me.0.standing }
@@ -130,7 +131,6 @@ impl Pools {
     }
 
     /// Gives a room back with one entry more, whose memory was made, and stores its count before.
-    /// Our own.
     pub(crate) fn put(&self, seat: &mut UnitSeat, room: usize, slot: Slot, entry: PlainEntry)
         requires seat { IsSeatOf self.now.table.shared.table_id seat.old.table_id
             seat.old.me.0.standing }
@@ -155,7 +155,6 @@ impl Pools {
     }
 
     /// How many units are free in a room, and after how many entries, by one load of its count word.
-    /// Our own.
     pub(crate) fn count(&self, seat: &mut UnitSeat, room: usize) -> (u32, u32)
         requires seat { IsUnitSeatOf self.now seat.old }
         requires room { room < row_count self.now.sizes }

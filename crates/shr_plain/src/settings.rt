@@ -1,3 +1,4 @@
+// SPDX-License-Identifier: GPL-2.0-only
 //! How pools are counted and scanned.
 
 /// How the units of a pool are counted and scanned.

@@ -1,3 +1,4 @@
+// SPDX-License-Identifier: GPL-2.0-only
 //! Sitting down at the tables, leaving them, and seats for further threads.
 
 ghost use Rattle.std.specs.Prelude.{◌≡◌, [], IfOk, IsOk};
@@ -9,7 +10,7 @@ use shr_base::log::Log;
 use shr_base::memory::Memory;
 
 impl FirstPlainSeat {
-    /// The seats at their tables. Our own.
+    /// The seats at their tables.
     pub fn at<'a>(self, pools: &'a Pools) -> PlainSeat<'a>
         requires { IsFirstPlainOf pools.now self }
         ensures { result ≡ first_plain_seated pools.now self }
@@ -30,7 +31,7 @@ impl FirstPlainSeat {
 
 impl<'a> PlainSeat<'a> {
     /// A further seat, which has done and seen nothing. Only the first seat is split. It takes no
-    /// memory today. Our own.
+    /// memory today.
     pub fn split(&mut self) -> Result<PlainSeat<'a>, Memory>
         requires first { IsFirstSeat (plain_standing self.old) }
         ensures made { IsOk result }
@@ -49,7 +50,7 @@ impl<'a> PlainSeat<'a> {
     }
 
     /// Joins another seat into the first one, which takes over what it did and saw in the rooms and
-    /// what it moved. Its walks are dropped: who keeps them takes them before. Our own.
+    /// what it moved. Its walks are dropped: who keeps them takes them before.
     pub fn join(&mut self, other: PlainSeat<'a>)
         requires first { IsFirstSeat (plain_standing self.old) }
         requires table { other.pools ≡ self.old.pools }
@@ -69,7 +70,7 @@ impl<'a> PlainSeat<'a> {
         shared.join_seat::<Seating>(&mut self.units, units);
     }
 
-    /// Leaves the tables with their first seats. Our own.
+    /// Leaves the tables with their first seats.
     pub fn leave(self) -> FirstPlainSeat
         requires first { IsFirstSeat (plain_standing self) }
         ensures first { IsFirstPlainOf self.entry.pools result }

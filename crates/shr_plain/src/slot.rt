@@ -1,3 +1,4 @@
+// SPDX-License-Identifier: GPL-2.0-only
 //! What a room holds.
 
 ghost use Rattle.std.specs.Prelude.{◌≡◌, ◌≤◌};
@@ -6,7 +7,7 @@ ghost use Rattle.shr_model.specs.Units.{free_of};
 use shr_base::journals::PlainEntry;
 use shr_base::log::Log;
 
-/// The journal of a pool on a node, and how many units it leaves free. Our own.
+/// The journal of a pool on a node, and how many units it leaves free.
 #[derive(Drop)]
 pub struct Slot {
     pub(crate) journal: Log<PlainEntry>,

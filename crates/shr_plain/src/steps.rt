@@ -1,3 +1,4 @@
+// SPDX-License-Identifier: GPL-2.0-only
 //! The steps on words.
 
 ghost use Rattle.std.specs.Prelude.{◌≡◌, ◌<◌, ◌==◌};
@@ -14,11 +15,11 @@ use shr_seats::telling::{Tells, Told};
 
 /// Each room has eight words: the first is its lock word, the second its count word. The others stay
 /// 0: where the table begins in the first half of a line of a processor's cache, no two rooms share
-/// a line. Our own.
+/// a line.
 pub(crate) const WORDS_A_ROOM: usize = 8;
 
 impl Pools {
-    /// One load of a word. `T` says what that tells. Our own.
+    /// One load of a word. `T` says what that tells.
     pub(crate) fn load_as<T: Tells<Slot, View>>(
         &self,
         seat: &mut UnitSeat,
@@ -35,7 +36,6 @@ impl Pools {
     }
 
     /// One compare and exchange of a lock word, which gives what it was. `T` says what that tells.
-    /// Our own.
     pub(crate) fn lock_as<T: Tells<Slot, View>>(
         &self,
         seat: &mut UnitSeat,
@@ -54,7 +54,7 @@ impl Pools {
             .compare_exchange::<Told<T>>(seat, word, 0, 1)
     }
 
-    /// Stores the count of a room that has one entry more. `T` says what that tells. Our own.
+    /// Stores the count of a room that has one entry more. `T` says what that tells.
     pub(crate) fn store_as<T: Tells<Slot, View>>(
         &self,
         seat: &mut UnitSeat,
@@ -73,7 +73,7 @@ impl Pools {
         self.table.shared.store::<Told<T>>(seat, word, new);
     }
 
-    /// Stores 0 in a lock word. `T` says what that tells. Our own.
+    /// Stores 0 in a lock word. `T` says what that tells.
     pub(crate) fn free_as<T: Tells<Slot, View>>(
         &self,
         seat: &mut UnitSeat,

@@ -1,3 +1,4 @@
+// SPDX-License-Identifier: GPL-2.0-only
 //! The table and its seats.
 
 ghost use Rattle.std.specs.Prelude.{◌≡◌, ◌<◌, ◌≤◌, ◌*◌, length, All};
@@ -17,7 +18,7 @@ use shr_seats::rows::Sizes;
 use std::alloc::Global;
 use std::marker::Model;
 
-/// A thread's seat at the table of rooms. Our own.
+/// A thread's seat at the table of rooms.
 pub type UnitSeat = Seat<Slot, View>;
 
 /// A room for each pool and node with its journal of units, and beside them the deferred words.
@@ -41,7 +42,7 @@ pub struct Pools {
     ghost groups: { sizes.groups ≡ 1 },
 }
 
-/// A thread's seats at both tables of these pools, and its walks of the pools. Our own.
+/// A thread's seats at both tables of these pools, and its walks of the pools.
 #[derive(Drop)]
 pub struct PlainSeat<'a> {
     pub(crate) pools: &'a Pools,
@@ -61,7 +62,6 @@ impl<'a> Model for PlainSeat<'a> {
 }
 
 /// The first seats while no thread sits at the tables: before the first does, and after the last.
-/// Our own.
 #[derive(Drop)]
 pub struct FirstPlainSeat {
     pub(crate) units: UnitSeat,
@@ -70,7 +70,7 @@ pub struct FirstPlainSeat {
 }
 
 impl Pools {
-    /// The place where the units of a pool are for a node: at node 0 for one that is flat. Our own.
+    /// The place where the units of a pool are for a node: at node 0 for one that is flat.
     pub fn place(&self, pool: u8, node: u8) -> Place
         requires { IsPoolOf self.now.settings.items self.now.sizes pool node }
         ensures place { result ≡ home_place self.now.settings.items pool node }

@@ -1,3 +1,4 @@
+// SPDX-License-Identifier: GPL-2.0-only
 //! A pool on a node, as a shrinker.
 
 ghost use Rattle.std.specs.Prelude.{◌<◌, ◌≤◌, None};

@@ -1,3 +1,4 @@
+// SPDX-License-Identifier: GPL-2.0-only
 //! What a seat of the pools knows.
 
 ghost use Rattle.std.specs.Borrow.{ftrue};
@@ -9,7 +10,6 @@ ghost use Rattle.shr_seats.specs.Standing.{Standing};
 use std::marker::Model;
 
 /// What a seat did and saw in each room, and its place among the seats. No value of it is made.
-/// Our own.
 pub struct View {
     pub ghost rooms: { List (RoomView PlainEntry) },
     pub ghost standing: { Standing },

@@ -1,3 +1,4 @@
+// SPDX-License-Identifier: GPL-2.0-only
 //! The walk of all pools.
 
 ghost use Rattle.std.specs.Prelude.{◌≡◌, ◌-◌, ◌<◌, ◌≤◌, ◌^◌, [], length, OnOk};
@@ -66,7 +67,7 @@ fn lacked_memory(tried: PlainTry) -> bool
 }
 
 impl<'a> PlainSeat<'a> {
-    /// Makes room for the record of a walk. On `Memory` there is as much as before. Our own.
+    /// Makes room for the record of a walk. On `Memory` there is as much as before.
     pub fn reserve_walk(&mut self) -> Result<(), Memory>
         ensures rest { self.new ≡ record self.old { spare = self.new.spare } }
         ensures spare { OnOk result (0 < self.new.spare) }
@@ -75,7 +76,7 @@ impl<'a> PlainSeat<'a> {
         self.walks.reserve(1)
     }
 
-    /// Takes the records of all its walks. Our own.
+    /// Takes the records of all its walks.
     pub fn take_walks(&mut self) -> Log<PlainWalk>
         ensures walks { result ≡ plain_walks_of self.old }
         ensures left { self.new ≡ record self.old {

@@ -1,3 +1,4 @@
+-- SPDX-License-Identifier: GPL-2.0-only
 -- The line of jobs and marks while it is pushed.
 use Rattle.shr_pool.proofs.Common.{◌≡◌, ℕ, ◌+◌, ◌*◌, List, [], ◌∷◌, ◌++◌, map, length, sym, ap, ◌∙◌, arith, length-append, replicate, range_with_len, map-range_with_len_more, SweepItem, Walk, End, job_at, table_jobs, length-map-range_with_len}
 use Rattle.std.proofs.lemmas.List.{map-append, length-map, length-replicate}

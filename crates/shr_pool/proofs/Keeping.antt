@@ -1,3 +1,4 @@
+-- SPDX-License-Identifier: GPL-2.0-only
 -- Each push, pop, split and join keeps the rule.
 use Rattle.shr_pool.proofs.Common.{◌≡◌, ℕ, zero, suc, ◌+◌, ◌<◌, ◌≤◌, false, cond, List, [], ◌∷◌, ◌++◌, map, sym, refl, ap, subst, ◌∙◌, ⊎_elim, arith, sum_by, ◌&&◌, some, some-injective, some-ne-none, get_elem?, Each, total, IsWhole, total-append, SweepItem, Walk, End, PassView, ends, is_end, most_helpers, IsPopped, IsFaced, IsQueueShown, IsQueued, first_pass_view, new_pass_view, with_push, with_pop, split_pass_view, joined_pass_view, marks_for, ◌≢◌, Bool, true, set, append_assoc, not, Standing, at_first, at_split, at_end, is_out, AreSeats, pass_standing_in, spent_pass_view}
 use Rattle.std.proofs.lemmas.Bool.{cases_Bool}

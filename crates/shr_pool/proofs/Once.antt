@@ -1,3 +1,4 @@
+-- SPDX-License-Identifier: GPL-2.0-only
 -- Each job stands once in the table of jobs, so that weights tell how often it was popped.
 use Rattle.shr_pool.proofs.Common.{◌≡◌, ℕ, zero, suc, ◌+◌, ◌*◌, ◌<◌, ◌≤◌, cond, [], ◌∷◌, map, sym, refl, ap, ◌∙◌, ⊎_elim, arith, false, ◌&&◌, range_with_len, map-range_with_len_more, dite, ℕ_discrete, total, total-append, SweepJob, PassView, job_at, table_jobs, AreWorked, AreEachOnce, IsTableJob, only_job, ◌/◌, ◌%◌, inl, inr, eq-eqb, ne_eqb, ◌==◌, ◌⊎◌}
 use Rattle.std.proofs.lemmas.Nat.{same_from_place, div-add-mod'}

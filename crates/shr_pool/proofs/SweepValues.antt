@@ -1,3 +1,4 @@
+-- SPDX-License-Identifier: GPL-2.0-only
 -- The jobs of a sweep, the rule of its queue and what came of the jobs, at known values.
 use Rattle.shr_pool.proofs.Common.{arith, ap, ◌∙◌, length-append, ◌≡◌, [], ◌∷◌, length, refl, replicate, Walk, End, PassView, job_at, table_jobs, queue_line, ends, most_helpers, IsPopped, IsFaced, IsHelper, filling, IsQueued, first_pass_view, new_pass_view, with_pop, joined_pass_view, split_pass_view, marks_for, ArePopped, AreWorked, AreEachOnce, IsTableJob, only_job, sweep_job, HasPoppedWithin, IsFilling, times_popped}
 use Rattle.shr_pool.proofs.Keeping.{begins}

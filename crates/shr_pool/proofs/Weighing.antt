@@ -1,3 +1,4 @@
+-- SPDX-License-Identifier: GPL-2.0-only
 -- Sums over passes, and lists that weigh nothing.
 use Rattle.shr_pool.proofs.Common.{◌≡◌, ℕ, zero, suc, ◌+◌, ◌<◌, ◌≤◌, List, [], ◌∷◌, length, sym, refl, ap, arith, sum_by, some, some-injective, some-ne-none, dite, ℕ_discrete, get_elem?, Each, total}
 use Rattle.std.proofs.lemmas.List.Sums.{sum_by-cons}

@@ -1,3 +1,4 @@
+-- SPDX-License-Identifier: GPL-2.0-only
 -- What was popped of the jobs, once a mark was.
 use Rattle.shr_pool.proofs.Common.{◌≡◌, ℕ, zero, suc, ◌+◌, ◌<◌, ◌≤◌, List, [], ◌∷◌, ◌++◌, map, sym, refl, ap, ◌∙◌, arith, replicate, some-injective, get_elem?, total, total-append, SweepItem, Walk, End, SweepJob, PassView, ends, is_end, table_jobs, queue_line, most_helpers, ArePopped, AreWorked, of_job}
 

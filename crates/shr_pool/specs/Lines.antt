@@ -1,3 +1,4 @@
+-- SPDX-License-Identifier: GPL-2.0-only
 -- The jobs of a number of nodes and groups, and the marks behind them.
 use Rattle.std.specs.Prelude.{ℕ, ◌/◌, ◌%◌, ◌*◌, List, ◌++◌, map, replicate}
 use Rattle.std.specs.List.{range_with_len}

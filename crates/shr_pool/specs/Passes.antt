@@ -1,3 +1,4 @@
+-- SPDX-License-Identifier: GPL-2.0-only
 -- The passes of a queue, and what they popped.
 use Rattle.std.specs.Prelude.{◌≡◌, ◌≤◌, true, false, List, []}
 use Rattle.crossbeam_queue.specs.Passes.{view, IsPassOf}

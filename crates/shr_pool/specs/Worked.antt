@@ -1,3 +1,4 @@
+-- SPDX-License-Identifier: GPL-2.0-only
 -- What came of a sweep's jobs, by what its passes popped.
 use Rattle.std.specs.Prelude.{◌≡◌, ℕ, ◌<◌, ◌≤◌, ◌==◌, ◌&&◌, cond, List, ◌++◌}
 use Rattle.shr_seats.specs.Weights.{total}

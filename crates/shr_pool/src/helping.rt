@@ -1,3 +1,4 @@
+// SPDX-License-Identifier: GPL-2.0-only
 //! A helper of a sweep.
 
 ghost use Rattle.std.specs.Prelude.{◌≡◌, ◌≤◌};

@@ -1,3 +1,4 @@
+// SPDX-License-Identifier: GPL-2.0-only
 //! Filling the queue, its passes, and popping.
 
 ghost use Rattle.std.specs.Prelude.{ℕ, ◌≡◌, ◌<◌, ◌≤◌, ◌+◌, ◌*◌, ◌/◌, ◌++◌, [], length, map, replicate, true, false, IfOk, MatchOption};
@@ -18,26 +19,26 @@ use shr_base::memory::Memory;
 use std::alloc::Global;
 use std::sync::Wait;
 
-/// How many helpers there may be. Our own.
+/// How many helpers there may be.
 pub const MOST_HELPERS: usize = 64;
 
-/// The queue of jobs, whose rule says which jobs were pushed and who popped each. Our own.
+/// The queue of jobs, whose rule says which jobs were pushed and who popped each.
 pub(crate) type Queue = RuledArrayQueue<SweepItem, PassView, Law>;
 
-/// What one helper pops with. It may be sent to a thread. Our own.
+/// What one helper pops with. It may be sent to a thread.
 #[derive(Drop)]
 pub struct JobPass {
     pub(crate) pass: Pass<SweepItem, PassView>,
 }
 
-/// The queue, which helpers share. Our own.
+/// The queue, which helpers share.
 #[derive(Drop)]
 pub struct JobQueue {
     pub(crate) ring: Queue,
 }
 
 /// The queue, with its first pass, which stays with the thread that made it: a pass can't be lent to
-/// two threads, so only `queue` is lent. Our own.
+/// two threads, so only `queue` is lent.
 #[derive(Drop)]
 pub struct Jobs {
     pub queue: JobQueue,
@@ -74,8 +75,7 @@ impl Jobs {
     /// [`MOST_HELPERS`] marks.
     ///
     /// `nodes` is from 1 to 4, and `groups`, the root counted, from 1 to 256. Memory comes where there
-    /// is no room for all of them at once; then nothing stands. No push finds the queue full. Our
-    /// own.
+    /// is no room for all of them at once; then nothing stands. No push finds the queue full.
     pub fn fill<R: Wait>(rt: &R, alloc: Global, nodes: u8, groups: u16) -> Result<Jobs, Memory>
         requires nodes { (0 < nodes) × (nodes ≤ 4) }
         requires groups { (0 < groups) × (groups ≤ 256) }
@@ -106,7 +106,7 @@ impl Jobs {
     }
 
     /// A pass for a helper, which has popped nothing and knows what was pushed. Once one was handed
-    /// out nothing more is pushed. Our own.
+    /// out nothing more is pushed.
     pub fn pass(&mut self) -> JobPass
         requires first { IsJobPass self.old.queue self.old.first
             × ((pass_view self.old.first).standing.first ≡ true) }
@@ -123,8 +123,7 @@ impl Jobs {
     }
 
     /// Joins a helper's pass into the first one, which then has what that one popped. Once all are
-    /// joined, no job was popped twice, and where a mark was popped each job was popped once. Our
-    /// own.
+    /// joined, no job was popped twice, and where a mark was popped each job was popped once.
     pub fn join(&mut self, pass: JobPass)
         requires first { IsJobPass self.old.queue self.old.first
             × ((pass_view self.old.first).standing.first ≡ true) }
@@ -154,7 +153,7 @@ impl JobQueue {
     /// The next job, or None where the pass met its mark: then no job is left, now or ever. A pass
     /// that met its mark pops no more. Of no item it has popped more than was pushed.
     ///
-    /// It waits only while another pass is in the middle of a pop. Our own.
+    /// It waits only while another pass is in the middle of a pop.
     pub fn pop<R: Wait>(&self, rt: &R, pass: &mut JobPass) -> Option<SweepJob>
         requires pass { IsHandedOut self.now pass.old }
         requires open { ends (pass_view pass.old).popped ≡ 0 }

@@ -1,3 +1,4 @@
+// SPDX-License-Identifier: GPL-2.0-only
 //! The rule of the queue, which each push, pop, split and join keeps.
 
 ghost use Rattle.std.specs.Prelude.{◌≡◌};
@@ -8,7 +9,7 @@ use crate::items::SweepItem;
 use crate::view::PassView;
 use crossbeam_queue::protocol::{Join, Lesson, Outcome, Protocol, Split};
 
-/// The rule: what was pushed is popped once, in order, and each pass knows what it is to know. Our own.
+/// The rule: what was pushed is popped once, in order, and each pass knows what it is to know.
 pub struct Law;
 
 impl Protocol<SweepItem, PassView> for Law {
@@ -17,7 +18,7 @@ impl Protocol<SweepItem, PassView> for Law {
     ghost first = { first_pass_view };
 }
 
-/// A push, which says that there was room. Our own.
+/// A push, which says that there was room.
 pub struct Pushed;
 
 impl Outcome<SweepItem, PassView> for Pushed {
@@ -29,7 +30,7 @@ impl Lesson<SweepItem, PassView> for Pushed {
 }
 
 /// A pop: the item now stands behind those that the pass popped, of none of which there are more than
-/// were pushed. A helper that has not met its mark finds something. Our own.
+/// were pushed. A helper that has not met its mark finds something.
 pub struct Popped;
 
 impl Outcome<SweepItem, PassView> for Popped {
@@ -40,14 +41,14 @@ impl Lesson<SweepItem, PassView> for Popped {
     ghost fact = { IsFaced };
 }
 
-/// What the first pass knows of all. Our own.
+/// What the first pass knows of all.
 pub struct Shown;
 
 impl Lesson<SweepItem, PassView> for Shown {
     ghost fact = { IsQueueShown };
 }
 
-/// How the first pass is split, and how another is joined into it. Our own.
+/// How the first pass is split, and how another is joined into it.
 pub struct Seating;
 
 impl Split<PassView> for Seating {

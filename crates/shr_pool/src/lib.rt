@@ -1,7 +1,8 @@
-//! The queue of a sweep, which several helpers work off: each job is popped once, and behind the jobs
-//! stands a mark for each helper that there may be, by which it knows that no job is left. Our own.
+// SPDX-License-Identifier: GPL-2.0-only
+//! The queue of a sweep, and the helpers that work it off.
 //!
-//! A helper of a sweep: it walks each job that it pops. Our own.
+//! A helper pops each job once and walks it. Behind the jobs stands a mark for each helper that there may be, by which
+//! the helper knows that no job is left.
 #![tactic(auto)]
 
 pub mod answers;

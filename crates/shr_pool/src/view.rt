@@ -1,3 +1,4 @@
+// SPDX-License-Identifier: GPL-2.0-only
 //! What a pass of the queue knows.
 
 ghost use Rattle.std.specs.Borrow.{ftrue};
@@ -8,7 +9,6 @@ ghost use Rattle.shr_seats.specs.Standing.{Standing};
 use std::marker::Model;
 
 /// What was pushed, what the pass popped, and its place among the passes. No value of it is made.
-/// Our own.
 pub struct PassView {
     pub ghost pushed: { List SweepItem },
     pub ghost popped: { List SweepItem },

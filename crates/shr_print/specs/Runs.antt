@@ -1,3 +1,4 @@
+-- SPDX-License-Identifier: GPL-2.0-only
 -- Runs of neighbours in a list.
 use Rattle.std.specs.Prelude.{ℕ, ◌-◌, List, take, drop}
 

@@ -1,3 +1,4 @@
+-- SPDX-License-Identifier: GPL-2.0-only
 -- Runs of the items of a section and then of those of another.
 use Rattle.std.specs.Prelude.{ℕ, ◌-◌, ◌++◌, List, min}
 

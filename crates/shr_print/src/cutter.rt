@@ -1,3 +1,4 @@
+// SPDX-License-Identifier: GPL-2.0-only
 //! Where a section is cut.
 
 ghost use Rattle.std.specs.Prelude.{◌≡◌, ◌≤◌, ◌+◌, ◌++◌, ◌∷◌, [], length, IfOk, OnOk};
@@ -9,7 +10,6 @@ use std::alloc::Global;
 
 /// Cuts items that come one after the other into runs of about the same weight. An item goes to the
 /// run in which its middle lies, so that what one run has too much of isn't passed on to the next.
-/// Our own.
 #[derive(Drop)]
 pub(crate) struct Cutter {
     // Where each run so far begins.
@@ -23,7 +23,7 @@ pub(crate) struct Cutter {
 }
 
 impl Cutter {
-    /// Before the first item, for runs of this weight. Our own.
+    /// Before the first item, for runs of this weight.
     pub(crate) fn new(alloc: Global, share: usize) -> Result<Cutter, Memory>
         ensures cuts { IfOk result (λ cutter. IsCutTo cutter.cuts.items cutter.at) }
         ensures at { IfOk result (λ cutter. cutter.at ≡ 0) }
@@ -63,7 +63,7 @@ impl Cutter {
         Ok(())
     }
 
-    /// An item of this weight comes. Our own.
+    /// An item of this weight comes.
     pub(crate) fn item(&mut self, weight: usize) -> Result<(), Memory>
         requires { IsCutTo self.old.cuts.items self.old.at }
         ensures cuts { OnOk result (IsCutTo self.new.cuts.items self.new.at) }
@@ -76,7 +76,7 @@ impl Cutter {
         self.pass(1, weight)
     }
 
-    /// So many items of the weight 1 come. Our own.
+    /// So many items of the weight 1 come.
     pub(crate) fn row(&mut self, items: usize) -> Result<(), Memory>
         requires { IsCutTo self.old.cuts.items self.old.at }
         ensures cuts { OnOk result (IsCutTo self.new.cuts.items self.new.at) }
@@ -94,7 +94,7 @@ impl Cutter {
         Ok(())
     }
 
-    /// The cuts, the last behind the last item. Our own.
+    /// The cuts, the last behind the last item.
     pub(crate) fn end(self) -> Result<Vec<usize>, Memory>
         requires { IsCutTo self.cuts.items self.at }
         ensures { IfOk result (λ cuts. AreCuts cuts.items self.at) }
@@ -105,7 +105,7 @@ impl Cutter {
     }
 }
 
-/// These items come, each by its measure. Our own.
+/// These items come, each by its measure.
 pub(crate) fn cut_all<T, F: Fn(&T) -> Measure>(
     cutter: &mut Cutter,
     items: &[T],

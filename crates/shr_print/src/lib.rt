@@ -1,3 +1,4 @@
+// SPDX-License-Identifier: GPL-2.0-only
 //! A report's text, printed by several threads.
 #![tactic(auto)]
 

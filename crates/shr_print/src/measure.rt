@@ -1,7 +1,8 @@
+// SPDX-License-Identifier: GPL-2.0-only
 //! How much of a report there is to print.
 
 /// About how many lines there are, and what they weigh: a line of an answer takes twice as long to
-/// print as another, so it weighs 2. Our own.
+/// print as another, so it weighs 2.
 #[derive(Clone, Copy)]
 pub(crate) struct Measure {
     pub(crate) lines: usize,
@@ -9,7 +10,7 @@ pub(crate) struct Measure {
 }
 
 impl Measure {
-    /// So many lines, each of this weight. Our own.
+    /// So many lines, each of this weight.
     pub(crate) fn of(lines: usize, weight: usize) -> Measure {
         Measure {
             lines,
@@ -17,7 +18,7 @@ impl Measure {
         }
     }
 
-    /// This and another, as far as a `usize` counts. Our own.
+    /// This and another, as far as a `usize` counts.
     pub(crate) fn and(self, other: Measure) -> Measure {
         Measure {
             lines: self.lines.saturating_add(other.lines),
@@ -26,7 +27,7 @@ impl Measure {
     }
 }
 
-/// The measure of all items, each of which has this one. Our own.
+/// The measure of all items, each of which has this one.
 pub(crate) fn measure_all<T, F: Fn(&T) -> Measure>(items: &[T], measure: &F) -> Measure
     requires { F.IsAlwaysCallable measure.now }
 {

@@ -1,3 +1,4 @@
+// SPDX-License-Identifier: GPL-2.0-only
 //! The parts of a section, printed by threads into memory, and put on a paper in order.
 
 ghost use Rattle.std.specs.Prelude.{◌≡◌, ◌≤◌, ◌<◌, ◌+◌, IfOk, IfSome, [], length, vec_len};
@@ -137,7 +138,7 @@ fn put_parts<S: Section, K: Sink>(
 }
 
 /// Prints the parts between the cuts, each by a thread that begins with room for so many bytes. Want of
-/// memory for the threads leaves them to this one. Our own.
+/// memory for the threads leaves them to this one.
 pub(crate) fn print_turn<R: Threads, S: Section + Sync, K: Sink>(
     crew: &Crew<R>,
     section: &S,

@@ -1,3 +1,4 @@
+// SPDX-License-Identifier: GPL-2.0-only
 //! A report is printed on threads.
 
 ghost use Rattle.std.specs.Prelude.{◌≡◌, ◌≤◌, ◌^◌, ◌⊎◌, IfOk, OnOk, OnErr};
@@ -79,7 +80,7 @@ pub(crate) fn print_in_turns<R: Threads, K: Sink>(
 
 /// Prints a report to a sink as `print` of `shr_report` does, by as many threads as there are workers
 /// with an answer, and no more than four. Parts of it are in memory until they are printed; want of
-/// memory leaves them to this thread, and never fails a print. Our own.
+/// memory leaves them to this thread, and never fails a print.
 pub fn print_on_threads<R: Threads, K: Sink>(
     rt: &R,
     alloc: Global,

@@ -1,3 +1,4 @@
+// SPDX-License-Identifier: GPL-2.0-only
 //! A section of a report, that can be printed by runs of its items.
 
 ghost use Rattle.std.specs.Prelude.{◌≡◌, ◌≤◌, ◌<◌, ◌+◌, ◌++◌, [], List, ℕ, OnOk, min};
@@ -10,7 +11,7 @@ use shr_base::memory::Memory;
 use shr_outside::outside::Sink;
 use shr_outside::paper::Paper;
 
-/// A section of a report, that can be printed by runs of its items. Our own.
+/// A section of a report, that can be printed by runs of its items.
 pub(crate) trait Section {
     /// The number of its items.
     ghost size: { Self → ℕ };

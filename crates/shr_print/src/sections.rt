@@ -1,3 +1,4 @@
+// SPDX-License-Identifier: GPL-2.0-only
 //! The sections of a report that are printed by threads.
 
 ghost use Rattle.std.specs.Prelude.{length, flat_map, refl, [], ◌∷◌};
@@ -24,7 +25,7 @@ use shr_report::printers::put_places;
 use shr_report::uses::put_uses;
 use shr_report::workers::put_answers;
 
-/// The parts of the workers, numbered from 0. Our own.
+/// The parts of the workers, numbered from 0.
 #[derive(Drop)]
 pub(crate) struct Workers<'a> {
     pub(crate) parts: &'a [WorkerPart],
@@ -75,7 +76,7 @@ impl<'a> Section for Workers<'a> {
     ghost both = { λ s from to end le le' within front next well. facts_joined IsPartNumbered s.parts.now from to end le le' (front well) (next well) };
 }
 
-/// The lists. Our own.
+/// The lists.
 #[derive(Drop)]
 pub(crate) struct Lists<'a> {
     pub(crate) ends: &'a [PlaceEnd],
@@ -121,7 +122,7 @@ impl<'a> Section for Lists<'a> {
     ghost both = { λ s from to end le le' within. facts_joined IsListNumbered s.ends.now from to end le le' };
 }
 
-/// What stands between the lists and the operations: one item. Our own.
+/// What stands between the lists and the operations: one item.
 #[derive(Drop)]
 pub(crate) struct Between<'a> {
     pub(crate) report: &'a Report,
@@ -169,7 +170,7 @@ impl<'a> Section for Between<'a> {
     ghost both = { λ s from to end le le' within. facts_joined IsBetweenNumbered (s.report.now ∷ []) from to end le le' };
 }
 
-/// The operations on groups' usages. Our own.
+/// The operations on groups' usages.
 #[derive(Drop)]
 pub(crate) struct Uses<'a> {
     pub(crate) steps: &'a [UseStep],

@@ -1,3 +1,4 @@
+// SPDX-License-Identifier: GPL-2.0-only
 //! A section and the one behind it.
 
 ghost use Rattle.std.specs.Prelude.{◌+◌};
@@ -11,7 +12,7 @@ use shr_base::memory::Memory;
 use shr_outside::outside::Sink;
 use shr_outside::paper::Paper;
 
-/// The items of a section, and then those of another. Our own.
+/// The items of a section, and then those of another.
 #[derive(Drop)]
 pub(crate) struct Then<A, B> {
     pub(crate) first: A,

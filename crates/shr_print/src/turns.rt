@@ -1,3 +1,4 @@
+// SPDX-License-Identifier: GPL-2.0-only
 //! A section that is printed by threads, in one turn or several.
 
 ghost use Rattle.std.specs.Prelude.{◌≡◌, ◌≤◌, IfOk};
@@ -63,7 +64,7 @@ fn print_turns<R: Threads, S: Section + Sync, K: Sink>(
 const MANY: usize = 4000;
 
 /// Prints a section, by threads where it is long and there are two or more. Want of memory for its cuts
-/// leaves it to this one. Our own.
+/// leaves it to this one.
 pub(crate) fn print_section<R: Threads, S: Section + Sync, K: Sink>(
     crew: &Crew<R>,
     section: &S,

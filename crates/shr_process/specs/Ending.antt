@@ -1,3 +1,4 @@
+-- SPDX-License-Identifier: GPL-2.0-only
 -- How the process ends.
 use Rattle.std.specs.Prelude.{◌≡◌, ℕ}
 use Rattle.shr_tool.specs.declared.status.Status.{Status}

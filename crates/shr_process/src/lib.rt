@@ -1,3 +1,4 @@
+// SPDX-License-Identifier: GPL-2.0-only
 //! The process around `top`: its words, the standard streams, and what is shown of its forms.
 #![tactic(auto)]
 
@@ -84,7 +85,7 @@ fn exit_of(status: Status) -> ExitCode
 
 /// All that the process does: `top` with its words and its standard streams, and the exit status
 /// that is the status' number. The threads are `main`'s to give. Where the words are of no form it
-/// shows the forms on standard error. It waits as the workers do. Our own.
+/// shows the forms on standard error. It waits as the workers do.
 pub fn serve<R: Threads + Wait + Sync>(rt: &HostRuntime, threads: &R) -> ExitCode
     ensures { IsStatusNumber (exit_status result) }
 {

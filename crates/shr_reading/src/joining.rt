@@ -1,3 +1,4 @@
+// SPDX-License-Identifier: GPL-2.0-only
 //! Two parts of a script as one.
 
 ghost use Rattle.std.specs.Prelude.{◌≡◌, ◌+◌, IfSome, IsTrue};
@@ -92,8 +93,7 @@ fn with_workers(first: Script, second: Script) -> Option<Script>
     })
 }
 
-/// Two parts behind this head as one script. `None` where they make none, or for want of memory. Our
-/// own.
+/// Two parts behind this head as one script. `None` where they make none, or for want of memory.
 pub(crate) fn joined(head: &Script, first: Script, second: Script) -> Option<Script>
     ensures fit { IfSome result (λ s.
         DoFit (content_of head.now) (content_of first) (content_of second)) }

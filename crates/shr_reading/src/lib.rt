@@ -1,4 +1,5 @@
-//! Reading a script by several threads. Our own.
+// SPDX-License-Identifier: GPL-2.0-only
+//! Reading a script by several threads.
 #![tactic(auto)]
 
 mod cutting;

@@ -1,3 +1,4 @@
+// SPDX-License-Identifier: GPL-2.0-only
 //! One part of a script, read as a script of its own.
 
 ghost use Rattle.std.specs.Prelude.{◌≡◌, ◌++◌, IfOk, IfSome};
@@ -9,8 +10,7 @@ use shr_base::scripts::Script;
 use shr_script::read::read_script;
 use std::alloc::{AllocError, Global};
 
-/// The bytes up to the first worker, and the script that they spell with an `end` behind them. Our
-/// own.
+/// The bytes up to the first worker, and the script that they spell with an `end` behind them.
 #[derive(Drop)]
 pub(crate) struct Head<'a> {
     pub(crate) bytes: &'a [u8],
@@ -30,7 +30,7 @@ fn whole(alloc: Global, head: &[u8], run: &[u8], tail: &[u8]) -> Result<Vec<u8>,
 }
 
 /// The script that the three texts spell as one. `None` where they spell none, or for want of
-/// memory. Our own.
+/// memory.
 pub(crate) fn read_part(alloc: Global, head: &[u8], run: &[u8], tail: &[u8]) -> Option<Script>
     ensures { IfSome result (λ s.
         IsSpelling (head.now ++ (run.now ++ tail.now)) (content_of s)) }
@@ -40,7 +40,7 @@ pub(crate) fn read_part(alloc: Global, head: &[u8], run: &[u8], tail: &[u8]) -> 
 }
 
 /// The head of a script, where these bytes are one: all of its declarations, and no worker. `None`
-/// where they aren't, or for want of memory. Our own.
+/// where they aren't, or for want of memory.
 pub(crate) fn read_head(alloc: Global, bytes: &[u8]) -> Option<Head<'_>>
     ensures { IfSome result (λ h. (h.bytes.now ≡ bytes.now)
         × IsHead bytes.now (content_of h.script)) }

@@ -1,3 +1,4 @@
+// SPDX-License-Identifier: GPL-2.0-only
 //! Reading a script, its workers by several threads.
 
 ghost use Rattle.std.specs.Prelude.{◌≤◌, ◌<◌, ◌^◌, ◌++◌, ℕ, length, IfOk, IfErr, IfSome};
@@ -76,7 +77,7 @@ pub(crate) fn read_in_runs<R: Threads + Sync>(rt: &R, alloc: Global, bytes: &[u8
 }
 
 /// The script that the bytes spell, or the first bad line and what is wrong with it, as
-/// `read_script` of `shr_script` answers. Our own.
+/// `read_script` of `shr_script` answers.
 ///
 /// Only want of memory is answered otherwise. A long script of several workers is read in runs of
 /// neighbours, each in a thread of its own where one can be made. What can't be read so is read again,

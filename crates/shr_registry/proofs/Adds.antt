@@ -1,3 +1,4 @@
+-- SPDX-License-Identifier: GPL-2.0-only
 -- What a call gains, step by step.
 use Rattle.shr_registry.proofs.Common.{◌≡◌, ℕ, ◌+◌, ◌<◌, cond, List, [], ◌∷◌, ◌++◌, sym, refl, ap, subst, ◌∙◌, arith, eq-eqb, map, None, append-nil, PoolEntry, by_seat, Begins, View, Shape, Gained, nothing, then_gained, places_in, has_room, pool_content, in_hand, content_in, with_taken, with_pool_given, HasPool, pool_of, Gains, Brings, Loads, only_pool, state_after, begins_all, AreKinds, without_room}
 use Rattle.shr_core.specs.Parts.{RoomContent, Holding, Made, no_rooms, Loaded, loaded as loaded_event}

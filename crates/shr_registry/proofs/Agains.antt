@@ -1,3 +1,4 @@
+-- SPDX-License-Identifier: GPL-2.0-only
 -- What a lookup of an id that was met finds.
 use Rattle.shr_registry.proofs.Common.{◌≡◌, ℕ, ◌%◌, true, cond, eqb, List, [], ◌∷◌, ◌++◌, length, sym, ap, subst, ◌∙◌, eq-eqb, ⊎_elim, append_assoc, arith, nat_tests, Some, None, Option, Contains, Contains-push, PoolEntry, Spent, phase_of, View, Shape, IsMet, with_word, Gained, nothing, Adds, FindAnswer, Brings, Loads, IsFree, IsHeldBy, FindGives, FindsCache, FindWorn, IsDatedBy, Contains-append_right}
 use Rattle.shr_base.specs.declared.replies.Spent.TheVariants as spent

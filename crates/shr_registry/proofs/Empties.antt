@@ -1,3 +1,4 @@
+-- SPDX-License-Identifier: GPL-2.0-only
 -- Emptying the lists of an owned id, node after node.
 use Rattle.shr_registry.proofs.Common.{◌≡◌, ℕ, zero, suc, ◌+◌, ◌<◌, ◌≤◌, List, [], ◌∷◌, ◌++◌, length, get_or, sym, refl, ap, subst, ◌∙◌, arith, append_assoc, length-append, true, Some, append-nil, dite, ℕ_discrete, some, get_elem?, at_last, HalfWhy, place_number, Gains, group_place, Object, Serial, Each, View, Shape, Made, Claims, no_rooms, mark_of, undrained, Draw, made_from, drawn_from, AreNodeDraws, AreDrained, StoppedBy, some-injective, some-ne-none, made_by_draws, drawn, IsDraw, AreDraws, Emptied, EmptyStops}
 use Rattle.shr_seats.specs.Shapes.{groups_in}

@@ -1,3 +1,4 @@
+-- SPDX-License-Identifier: GPL-2.0-only
 -- What unregistering leaves as a whole.
 use Rattle.shr_registry.proofs.Common.{◌≡◌, ℕ, ◌+◌, ◌<◌, ◌≤◌, List, [], ◌∷◌, ◌++◌, length, take, false, true, sym, refl, ap, subst, ◌∙◌, ⊎_elim, arith, eq-eqb, length-append, append-nil, LookupWord, Object, Serial, PoolEntry, Unregistered, Idle, Contains, Some, None, HalfWhy, place_number, Each, Begins, begins_more, View, Shape, Claims, Made, Turn, no_rooms, places_in, HasLastEnd, pool_content, with_taken, with_pool_given, undrained, Brings, Loads, only_pool, IsFree, made_from, AreNodeDraws, AreDrained, StoppedBy, Dies, Rests, UnregisterGives, ended_turn, Draw, group_place, Gained, nothing, then_gained, phase_of, at_last, some, get_elem?, begins_push, Counted, Known, Traces, IsCounted, with_given_up, StopsIn, IsFilled, at_longer, at_snoc, take-append-le}
 use Rattle.shr_base.specs.declared.replies.HalfWhy.TheVariants as why

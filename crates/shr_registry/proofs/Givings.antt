@@ -1,3 +1,4 @@
+-- SPDX-License-Identifier: GPL-2.0-only
 -- What a call answers once the pool is given back.
 use Rattle.shr_registry.proofs.Common.{◌≡◌, ℕ, ◌+◌, ◌<◌, List, [], ◌∷◌, ◌++◌, length, sym, refl, ap, subst, ◌∙◌, Contains-push, PoolEntry, Spent, Begins, View, Shape, Claims, Holding, Turn, no_rooms, places_in, pool_content, in_hand, with_taken, with_pool_given, FindAnswer, RegisterAnswer, Brings, only_pool, IsFree, FindGives, IsDatedBy, RegisterGives, FindWorn, Misses, ended_turn, Gained, nothing, Setting, Registered, Each, Some, Contains, Option, Dated, dated_now, dating_of, RetireGives}
 use Rattle.shr_base.specs.declared.replies.Spent.TheVariants as spent

@@ -1,3 +1,4 @@
+-- SPDX-License-Identifier: GPL-2.0-only
 -- What draining makes, at known values.
 use Rattle.shr_registry.proofs.Common.{◌≡◌, ℕ, [], ◌∷◌, refl, sym, Some, Serial, Draw, IsFree, IsHeldBy, made_from, drawn_from, no_claims, opener}
 use Rattle.std.proofs.lemmas.Option.{none-some}

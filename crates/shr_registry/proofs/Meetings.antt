@@ -1,3 +1,4 @@
+-- SPDX-License-Identifier: GPL-2.0-only
 -- What a lookup with the pool in hand finds.
 use Rattle.shr_registry.proofs.Common.{◌≡◌, ℕ, ◌%◌, ◌<◌, ◌≤◌, Bool, true, false, cond, List, [], ◌∷◌, ◌++◌, length, sym, ap, subst, ◌∙◌, eq-eqb, append_assoc, Some, None, Option, Contains-push, LookupWord, PoolEntry, is_live, is_live_decl, from_of, View, Shape, Holding, Claims, places_in, has_room, content_in, HasPool, pool_of, Brings, Loads, IsLiveAs, IsFree, IsHeldBy, Misses, FindsCache, Gained, nothing, Adds, registrations, decl_at, Tried, Loaded, with_leave, with_lookup, ShowsWord, HasLoaded, FindsNoNumber}
 use Rattle.shr_base.specs.declared.replies.Spent.TheVariants as spent

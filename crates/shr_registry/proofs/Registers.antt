@@ -1,3 +1,4 @@
+-- SPDX-License-Identifier: GPL-2.0-only
 -- The phase step that registers a declaration.
 use Rattle.shr_registry.proofs.Common.{◌≡◌, ℕ, zero, suc, ◌+◌, ◌%◌, ◌<◌, ◌≤◌, Bool, true, false, cond, eqb, List, [], ◌∷◌, ◌++◌, length, sym, refl, ap, subst, ◌∙◌, arith, eq-eqb, Some, None, Option, nat_tests, LookupWord, PoolEntry, Registered, Unregistered, Idle, phase_of, is_live_decl, lowest_idle, View, Shape, Holding, places_in, pool_content, content_in, with_word, with_phase, turn_at, MayPhase, HasPool, pool_of, Raises, Brings, Loads, only_pool, IsLiveAs, IsFree, RegisterLacksMemory, Gained, nothing, Begins, Setting, RoomContent, Hand, with_content, FindsLive, FindsNoId, Registers}
 use Rattle.shr_model.specs.Pool.{is_dying}

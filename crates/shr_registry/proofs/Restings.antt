@@ -1,3 +1,4 @@
+-- SPDX-License-Identifier: GPL-2.0-only
 -- A seat is as free after a call as it was before.
 use Rattle.shr_registry.proofs.Common.{◌≡◌, ℕ, List, sym, refl, subst, ◌∙◌, Serial, PoolEntry, View, Shape, Gained, Setting, RegisterAnswer, Brings, IsFree, FindGives, RegisterGives, UnregisterGives, with_put, StaysFree}
 use Rattle.shr_registry.specs.declared.answers.FindAnswer.TheVariants as find

@@ -1,3 +1,4 @@
+-- SPDX-License-Identifier: GPL-2.0-only
 -- The phase steps that end a registration.
 use Rattle.shr_registry.proofs.Common.{◌-◌, ◌≡◌, ℕ, zero, suc, ◌+◌, ◌%◌, ◌<◌, ◌≤◌, Bool, true, false, cond, eqb, List, [], ◌∷◌, ◌++◌, length, take, get_or, sym, refl, ap, subst, ◌∙◌, arith, eq-eqb, ◌==◌, ◌&&◌, Option, Some, None, nat_tests, dite, ℕ_discrete, LookupWord, PoolEntry, Unregistered, Idle, phase_of, from_of, is_live, is_live_decl, View, Shape, HasLastEnd, mark_of, with_word, with_phase, turn_at, undrained, MayPhase, IsOfPool, HasPool, pool_of, Raises, Brings, Loads, only_pool, IsLiveAs, IsFree, Misses, EndsLacking, Dies, Rests, ended_turn, Gained, nothing, Turn, Setting, Each, Begins, ne_eqb, is_some_of, OwnsAll}
 use Rattle.std.proofs.Math.Seq.{take-suc}

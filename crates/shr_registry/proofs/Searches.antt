@@ -1,3 +1,4 @@
+-- SPDX-License-Identifier: GPL-2.0-only
 -- What searching the ids has found so far.
 use Rattle.shr_registry.proofs.Common.{by_seat, append-nil, ◌≡◌, ℕ, zero, suc, ◌+◌, ◌-◌, ◌%◌, ◌<◌, ◌≤◌, Bool, true, false, cond, eqb, List, [], ◌∷◌, sym, refl, ap, subst, ◌∙◌, arith, eq-eqb, append_assoc, ◌++◌, map, ◌&&◌, ◌==◌, Some, None, dite, ℕ_discrete, LookupWord, PoolEntry, phase_of, decl_of, is_live, times, View, Shape, Setting, places_in, has_room, IsOfPool, HasPool, pool_of, with_word, content_in, Loads, Deed, map-append, ◌||◌, nat_lt, place_id, without_id}
 use Rattle.shr_model.specs.Pool.{is_live_below, is_free, lowest_free}

@@ -1,3 +1,4 @@
+-- SPDX-License-Identifier: GPL-2.0-only
 -- What a call of the registry gains, and what it leaves as it was.
 use Rattle.shr_seats.specs.Lines.{by_seat}
 use Rattle.std.specs.Prelude.{◌≡◌, ℕ, ◌<◌, List, [], ◌∷◌, true, None, Some, ◌++◌, map}

@@ -1,3 +1,4 @@
+-- SPDX-License-Identifier: GPL-2.0-only
 -- What the calls answer by the pool's journal, and what their seat's view gains.
 use Rattle.std.specs.Prelude.{◌≡◌, ℕ, ◌<◌, ◌≤◌, List, [], ◌∷◌, ◌++◌, length, true, false, Some, None, Contains}
 use Rattle.shr_base.specs.declared.ends.LookupWord.{LookupWord}

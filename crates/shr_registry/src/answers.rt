@@ -1,3 +1,4 @@
+// SPDX-License-Identifier: GPL-2.0-only
 //! What the calls answer. In a refusal `entry` is the length of the pool's journal that was seen,
 //! and the refusal speaks of that many first entries.
 

@@ -1,3 +1,4 @@
+// SPDX-License-Identifier: GPL-2.0-only
 //! Registration: register, find and unregister over the journal of the pool.
 #![tactic(auto)]
 

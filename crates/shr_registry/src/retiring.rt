@@ -1,3 +1,4 @@
+// SPDX-License-Identifier: GPL-2.0-only
 //! The two phase steps that end a registration: from live to dying, and from dying to idle.
 
 ghost use Rattle.std.specs.Prelude.{◌≡◌, ◌+◌, ◌*◌, ◌<◌, ◌≤◌, ℕ, List, [], ◌∷◌, ◌++◌, length, true, IfSome, Some, None};
@@ -19,7 +20,7 @@ use shr_base::log::Log;
 use shr_core::seat::Seat;
 use std::sync::Wait;
 
-/// What the step from live to dying answers. Our own.
+/// What the step from live to dying answers.
 #[derive(Clone, Copy)]
 pub enum Retired {
     /// The declaration is not live.

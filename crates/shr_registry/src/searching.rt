@@ -1,3 +1,4 @@
+// SPDX-License-Identifier: GPL-2.0-only
 //! Searching the ids by what is kept in their words. While the pool is in hand, its journal says
 //! what that is.
 
@@ -61,7 +62,7 @@ fn other_live_id(seat: &mut Seat<'_>, known: u16, decl: u8) -> Option<u16>
     None
 }
 
-/// The id that is live with a declaration, by at most one load of each id's word. Our own.
+/// The id that is live with a declaration, by at most one load of each id's word.
 ///
 /// The declaration's own number is looked at first: caches that are on from the start have it as their id if none
 /// before them is off.

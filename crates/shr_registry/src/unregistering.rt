@@ -1,3 +1,4 @@
+// SPDX-License-Identifier: GPL-2.0-only
 //! Unregistering a cache.
 
 ghost use Rattle.std.specs.Prelude.{◌≡◌, ◌<◌};

@@ -1,3 +1,4 @@
+-- SPDX-License-Identifier: GPL-2.0-only
 -- The answers of workers are parted in one way, each with what else stands of its command.
 use Rattle.shr_report.proofs.Common.{◌≡◌, ℕ, suc, ◌+◌, ◌≤◌, List, [], ◌∷◌, ◌++◌, length, Option, refl, sym, ap, ◌∙◌, append_assoc, arith, AllByRecursion, AllZip, prefix_len, Serial, Found, Reply, Answered, WalkRecord, Carry, PlainWalk, Isolation, reply_line, found_lines, is_walk_of, is_carry_of, is_plain_of, is_isolation_of, Logs, log_lines, after_command, IsSameWalk, IsSamePlain, read_reply_line}
 use Rattle.shr_laws.specs.Text.{answer_lines}

@@ -1,3 +1,4 @@
+-- SPDX-License-Identifier: GPL-2.0-only
 -- The body stands in the text.
 use Rattle.shr_report.proofs.Common.{◌≡◌, ℕ, List, ◌++◌, append_assoc}
 

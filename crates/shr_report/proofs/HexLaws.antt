@@ -1,3 +1,4 @@
+-- SPDX-License-Identifier: GPL-2.0-only
 -- The hexadecimal digits of a word, from the last to the first.
 use Rattle.shr_report.proofs.Common.{◌≡◌, ℕ, List, zero, suc, ◌-◌, ◌/◌, ◌%◌, ◌<◌, ◌≤◌, [], ◌∷◌, ◌++◌, refl, sym, ap, ◌∙◌, arith, append_assoc, sub-one, codes, hex_digit}
 use Rattle.shr_laws.specs.Lines.{hex_digits}

@@ -1,3 +1,4 @@
+-- SPDX-License-Identifier: GPL-2.0-only
 -- Parts of a text one after the other.
 use Rattle.shr_report.proofs.Common.{◌≡◌, ℕ, ◌+◌, ◌<◌, ◌≤◌, List, [], ◌∷◌, ◌++◌, length, take, drop, get_or, flat_map, refl, sym, ap, ◌∙◌, append_assoc, prefix_len, take_more, drop_more, drop_all, append-nil, take-append-drop, Attempt, MapSeen, Answered, reply_line, found_lines, attempt_line, map_line, is_in_unit, Logs, log_lines, after_command, drop-drop}
 use Rattle.std.proofs.lemmas.Grind.{flat_map-append}

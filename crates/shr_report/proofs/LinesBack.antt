@@ -1,3 +1,4 @@
+-- SPDX-License-Identifier: GPL-2.0-only
 -- The lines of a report read back.
 use Rattle.shr_report.proofs.Common.{◌≡◌, ℕ, Bool, true, false, List, [], ◌∷◌, ◌⊎◌, inl, inr, refl, sym, ap, subst, codes, ℤ, list_all, is_key, is_value, is_name, is_path, Place, Serial, Object, Plain, Clock, Entry, PoolEntry, TreeEntry, UseStep, Found, Reply, Attempt, MapSeen, WalkAnswer, Carry, PlaceAmount, MapEnd, line, hex, numeral, signed_numeral, spent_words, why_words, isolate_end_words, reply_line, place_words, pass_words, attempt_line, map_line, carry_line, numbered_group_line, numbered_cache_line, pool_entry_line, tree_line, entry_line, item_line, bit_line, deferred_line, use_line, lookups_line, HasWords, LendsWord, IsSpelled, IsBitWord, read_reply_line, read_found, read_group, read_cache, read_pool, read_tree, read_attempt, read_map, WalkHead, read_walk, read_amount, read_list, read_bit, read_use, read_lookups, Totals, totals, read_total, read_version, read_size, read_item, Halt, choice, value_word, walked_words}
 use Rattle.shr_base.specs.declared.journals.DropKind.TheVariants as kind

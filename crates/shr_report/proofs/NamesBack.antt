@@ -1,3 +1,4 @@
+-- SPDX-License-Identifier: GPL-2.0-only
 -- The names of the pools of units and the journal of registrations are parted in one way, though the
 -- lines of both begin with `pool`: a name's has two words behind that, and an entry's more.
 use Rattle.shr_report.proofs.Common.{◌≡◌, ℕ, ◌+◌, true, List, [], ◌∷◌, ◌++◌, refl, sym, ap, ◌∙◌, append_assoc, AllByRecursion, is_name, PoolEntry, units_name_line, pool_entry_line, read_units_name, read_pool}

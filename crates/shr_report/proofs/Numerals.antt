@@ -1,3 +1,4 @@
+-- SPDX-License-Identifier: GPL-2.0-only
 -- The numbers of the code's types are spelled by std as the report has them.
 use Rattle.shr_report.proofs.Common.{◌≡◌, ℕ, zero, suc, ◌^◌, ◌<◌, refl, arith, decimal}
 use Rattle.std.specs.Fmt.{digits}

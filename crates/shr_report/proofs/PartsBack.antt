@@ -1,3 +1,4 @@
+-- SPDX-License-Identifier: GPL-2.0-only
 -- What stands of a command behind its answer is parted in one way: isolations, walks, carries and walks of the pools.
 use Rattle.shr_report.proofs.Common.{◌≡◌, ℕ, ◌+◌, ◌<◌, ◌≤◌, Bool, true, false, List, [], ◌∷◌, ◌++◌, take, drop, flat_map, Option, Some, None, refl, sym, ap, subst, ◌∙◌, append_assoc, arith, ◌==◌, take_while, codes, AllByRecursion, AllZip, prefix_len, take-append-drop, nat_tests, Serial, Found, Reply, Answered, WalkRecord, Carry, PlainWalk, Isolation, PlaceAmount, line, numbered, numeral, reply_line, found_lines, walk_lines, carry_line, plain_lines, isolation_line, is_walk_of, is_carry_of, is_plain_of, is_isolation_of, Logs, log_lines, after_command, LendsWord, IsSameWalk, IsSamePlain, read_found, read_amount, same_byte, one-add}
 use Rattle.shr_report.proofs.Printed.{one_line}

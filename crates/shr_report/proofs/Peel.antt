@@ -1,3 +1,4 @@
+-- SPDX-License-Identifier: GPL-2.0-only
 -- A line is read back: words without separators, the first of a text that goes on.
 use Rattle.shr_report.proofs.Common.{◌≡◌, ℕ, Bool, true, ◌&&◌, List, [], ◌∷◌, ◌++◌, refl, sym, ap, ◌∙◌, append_assoc, append-nil, list_all, cut, differs, and_true, joined_cut, spaced, line, cut_first, pieces_joined}
 use Rattle.shr_model.specs.Pieces.{Parts, pieces, joined}

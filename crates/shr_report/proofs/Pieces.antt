@@ -1,3 +1,4 @@
+-- SPDX-License-Identifier: GPL-2.0-only
 -- The digits of numbers in a piece of a line.
 use Rattle.shr_report.proofs.Common.{◌≡◌, ℕ, List, zero, suc, ◌^◌, ◌<◌, ◌≤◌, ◌+◌, ◌/◌, ◌%◌, [], ◌∷◌, ◌++◌, length, map, refl, ap, ◌∙◌, arith, decimal, digits_of}
 use Rattle.std.proofs.lemmas.Int.Digits.{digits_of_step}

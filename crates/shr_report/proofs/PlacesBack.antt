@@ -1,3 +1,4 @@
+-- SPDX-License-Identifier: GPL-2.0-only
 -- Lists, and the journals of pools, are parted in one way.
 use Rattle.shr_report.proofs.Common.{◌≡◌, ℕ, ◌<◌, List, ◌++◌, flat_map, sym, ap, ◌∙◌, append_assoc, arith, codes, AllByRecursion, AllZip, PlaceEnd, UnitsEnd, line, place_words, entry_line, item_line, place_lines, plain_entry_line, units_lines, HasWords, IsSpelled, IsSameUnits, read_list, read_item, UnitsHead, read_units, IsPlaceWell, IsSameEnd, read_entry, read_plain_entry}
 use Rattle.shr_report.proofs.Printed.{one_line}

@@ -1,3 +1,4 @@
+-- SPDX-License-Identifier: GPL-2.0-only
 -- Walks of the pools, and isolations, are parted in one way.
 use Rattle.shr_report.proofs.Common.{◌≡◌, ℕ, List, ◌++◌, flat_map, sym, ap, ◌∙◌, append_assoc, arith, AllByRecursion, AllZip, Serial, Isolation, PlainWalk, numbered, pass_line, plain_lines, isolation_line, IsSamePlain, PlainHead, read_plain, read_pass_line, IsolationHead, read_isolation}
 use Rattle.shr_report.proofs.Printed.{one_line}

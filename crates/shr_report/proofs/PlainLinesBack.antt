@@ -1,3 +1,4 @@
+-- SPDX-License-Identifier: GPL-2.0-only
 -- The lines of pools of units and of isolations read back.
 use Rattle.shr_report.proofs.Common.{◌≡◌, ℕ, ◌+◌, true, false, List, [], ◌∷◌, refl, sym, ap, codes, list_all, is_name, PlainEntry, PoolEntry, Isolation, PlainTry, PlainAnswer, PlaceAmount, line, numeral, isolate_end_words, pass_line, isolation_line, units_name_line, pool_entry_line, plain_entry_line, pool_deferred_line, read_pass_line, PlainHead, read_plain, IsolationHead, read_isolation, read_units_name, UnitsHead, read_units, read_pool_amount, plain_walked_words, plain_try_words}
 use Rattle.shr_base.specs.declared.journals.PlainEntry.TheVariants as units

@@ -1,3 +1,4 @@
+-- SPDX-License-Identifier: GPL-2.0-only
 -- Each line reads back as what it is of.
 use Rattle.shr_report.proofs.Common.{◌≡◌, ℕ, true, List, ◌∷◌, ◌++◌, refl, sym, ap, ◌∙◌, list_all, IsolateEnd, Ending, PassRecord, line, spent_words, why_words, isolate_end_words, pass_words, ending_words}
 use Rattle.shr_base.specs.declared.replies.Spent.{Spent}

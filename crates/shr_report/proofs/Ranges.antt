@@ -1,3 +1,4 @@
+-- SPDX-License-Identifier: GPL-2.0-only
 -- What holds of each item of a list that is read from its front.
 use Rattle.shr_report.proofs.Common.{◌≡◌, ℕ, ◌+◌, ◌<◌, ◌≤◌, List, [], ◌∷◌, length, take, drop, get_or, sym, subst, ◌^◌, ◌⊎◌, inl, inr, arith, AllByRecursion, take_more, take-append-drop, each_append, each_weaker, WorkerPart, WalkRecord, Carry, PlainWalk, Isolation, Report, IsPartWell, IsPoolAmountWell, IsWellFormed, Logs, after_command, logs_of, logs_from, AreNumberedTo, IsAnsweredNumbered, IsWalkNumbered, IsCarryNumbered, IsPlainNumbered, IsIsolationNumbered, IsAmountNumbered, IsListNumbered, AreUnitsNumbered, IsMapNumbered, IsUseNumbered, IsPartNumbered, HasNumbers, OnOk, Result, Ok, Err, take_all, IsAmountWell}
 use Rattle.std.proofs.Math.Seq.{take-add}

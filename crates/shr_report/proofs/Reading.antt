@@ -1,3 +1,4 @@
+-- SPDX-License-Identifier: GPL-2.0-only
 -- The words of a line are read back.
 use Rattle.shr_report.proofs.Common.{◌≡◌, ℕ, zero, suc, ◌+◌, ◌*◌, ◌-◌, ◌/◌, ◌%◌, ◌^◌, ◌<◌, Bool, true, false, List, [], ◌∷◌, ◌++◌, refl, arith, inl, inr, ap, ◌∙◌, sub-one, ◌==◌, bytes_eq, ◌||◌, length, map, ℤ, pos, negsuc, ◌⊎◌, list_all, digits_of, nat_tests, is_key, is_value, is_name, cut, differs, and_true, same_byte, joined_cut, signed_numeral, hex, hex_digit, pow-suc, number_from_digits, AllBelowBase, is_visible, is_between, is_name_byte, is_part}
 use Rattle.std.proofs.lemmas.Int.Digits.{number_digits_of, all_below_base_digits_of}

@@ -1,3 +1,4 @@
+-- SPDX-License-Identifier: GPL-2.0-only
 -- The text of a report determines it.
 use Rattle.shr_report.proofs.Common.{◌≡◌, ℕ, ◌+◌, ◌-◌, ◌<◌, true, List, [], ◌∷◌, ◌++◌, length, map, flat_map, refl, sym, ap, subst, ◌∙◌, append_assoc, arith, codes, AllByRecursion, AllZip, range_with_len, is_path, is_name, each_append, each_weaker, MapEnd, Report, line, numbered, numeral, numbered_group_line, numbered_cache_line, units_name_line, pool_entry_line, tree_line, worker_lines, place_lines, units_lines, bit_line, deferred_line, pool_deferred_line, use_line, lookups_line, end_lines, IsPoolAmountWell, IsPartWell, IsBitWord, map_units, bit_places, IsWellFormed, IsSameUnits, read_group, read_cache, read_tree, read_amount, read_pool_amount, read_bit, read_use, read_lookups, Totals, totals, read_total, read_version, read_size, IsOneReport}
 use Rattle.shr_laws.specs.Text.{reply_count, walk_count, text}

@@ -1,3 +1,4 @@
+-- SPDX-License-Identifier: GPL-2.0-only
 -- The parts of a report, one behind another.
 use Rattle.shr_report.proofs.Common.{◌≡◌, ℕ, ◌+◌, ◌≤◌, Bool, true, false, List, [], ◌∷◌, ◌++◌, take, drop, flat_map, refl, sym, ap, subst, ◌∙◌, append_assoc, arith, ◌==◌, ◌||◌, if◌then◌else◌, bytes_eq, codes, AllByRecursion, AllZip, take-append-drop, Place, Object, Entry, PlainEntry, PoolEntry, TreeEntry, UseStep, Found, Reply, Attempt, MapSeen, WalkAnswer, Carry, PlainTry, PlainAnswer, Isolation, PlaceAmount, MapEnd, line, numeral, reply_line, place_words, attempt_line, map_line, carry_line, pass_line, isolation_line, numbered_group_line, numbered_cache_line, pool_entry_line, tree_line, entry_line, item_line, bit_line, deferred_line, use_line, lookups_line, units_name_line, plain_entry_line, pool_deferred_line}
 use Rattle.shr_base.specs.declared.journals.Entry.TheVariants as entry

@@ -1,3 +1,4 @@
+-- SPDX-License-Identifier: GPL-2.0-only
 -- Walks are parted in one way: each with its maps and its attempts.
 use Rattle.shr_report.proofs.Common.{◌≡◌, ℕ, List, [], ◌∷◌, ◌++◌, drop, flat_map, refl, sym, ap, ◌∙◌, append_assoc, arith, take_while, AllByRecursion, prefix_len, take-append-drop, Serial, Attempt, MapSeen, WalkRecord, attempt_line, map_line, is_in_unit, walk_lines, IsBitWord, IsSameWalk, read_attempt, read_map, WalkHead, read_walk}
 use Rattle.std.proofs.lemmas.List.Concat.{flat_map-append}

@@ -1,3 +1,4 @@
+-- SPDX-License-Identifier: GPL-2.0-only
 -- The workers of a report are parted in one way.
 use Rattle.shr_report.proofs.Common.{◌≡◌, ℕ, suc, ◌+◌, ◌<◌, ◌≤◌, List, [], ◌∷◌, ◌++◌, length, map, Some, ◌⊎◌, inl, inr, refl, sym, ap, subst, ◌∙◌, append_assoc, arith, slice_get, AllByRecursion, AllZip, AllAdjacentBelow, Serial, Reply, Answered, WalkRecord, Carry, PlainWalk, Isolation, WorkerPart, reply_line, logs_of, worker_lines, LendsWord, AreOfCommands, IsPartWell, read_reply_line, add-zero, slice_index_or, IsWalkWell, IsSamePart}
 use Rattle.shr_laws.specs.Lines.{numbered}

@@ -1,3 +1,4 @@
+-- SPDX-License-Identifier: GPL-2.0-only
 -- The body of a report's text: all from the workers' parts to the operations.
 use Rattle.std.specs.Prelude.{List, ◌++◌, ℕ, flat_map}
 use Rattle.std.specs.List.{AllByRecursion}

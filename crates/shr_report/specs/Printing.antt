@@ -1,3 +1,4 @@
+-- SPDX-License-Identifier: GPL-2.0-only
 -- How far what a worker has besides its answers is printed. No public clause cites this: the printer's
 -- own do.
 use Rattle.std.specs.Prelude.{◌≤◌, length, take, drop}

@@ -1,3 +1,4 @@
+-- SPDX-License-Identifier: GPL-2.0-only
 -- The lines of a report read back: what each says, by its first word and those behind it. No clause cites this, as with
 -- `ReadWords`.
 use Rattle.std.specs.Prelude.{ℕ, ◌==◌, bytes_eq, codes, if◌then◌else◌, Bool, true, false, List}

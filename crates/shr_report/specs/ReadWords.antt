@@ -1,3 +1,4 @@
+-- SPDX-License-Identifier: GPL-2.0-only
 -- Numbers and words of a line read back. No clause cites this: the proof that a text determines its report does, and so may
 -- what reads reports.
 use Rattle.std.specs.Prelude.{ℕ, ◌+◌, ◌*◌, ◌-◌, ◌==◌, nat_lt, bytes_eq, codes, if◌then◌else◌, cond, Bool, true, false, List, [], ◌∷◌, map, ℤ, pos, negsuc}

@@ -1,3 +1,4 @@
+// SPDX-License-Identifier: GPL-2.0-only
 //! The lines of an answer.
 
 ghost use Rattle.std.specs.Prelude.{◌≡◌, ◌≤◌, ◌+◌, ◌++◌, ◌∷◌, [], codes, drop, length};
@@ -172,8 +173,7 @@ fn found(piece: &mut Piece, found: &Option<Found>) -> usize
     }
 }
 
-/// The lines of an answer: the reply, and the id that the cache was held with, where it was. Our
-/// own.
+/// The lines of an answer: the reply, and the id that the cache was held with, where it was.
 pub fn put_answered<K: Sink>(
     out: &mut Paper<K>,
     piece: &mut Piece,

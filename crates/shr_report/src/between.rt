@@ -1,3 +1,4 @@
+// SPDX-License-Identifier: GPL-2.0-only
 //! What stands between the lists and the operations of a report.
 
 ghost use Rattle.std.specs.Prelude.{◌≡◌, ◌≤◌, ◌++◌, ◌∷◌, [], drop, flat_map};
@@ -65,7 +66,7 @@ fn deferred<K: Sink>(out: &mut Paper<K>, words: &[PlaceAmount])
     }
 }
 
-/// The pools' ends, the bit words, the deferred words and those of the pools. Our own.
+/// The pools' ends, the bit words, the deferred words and those of the pools.
 pub fn put_between<K: Sink>(out: &mut Paper<K>, report: &Report)
     ensures printed { Prints K.written K.faults out.old out.new (between_lines report.now) }
     ensures numbers { IsBetweenNumbered report.now }

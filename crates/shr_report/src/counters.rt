@@ -1,3 +1,4 @@
+// SPDX-License-Identifier: GPL-2.0-only
 //! The words of a place, and of a counter that is used up.
 
 ghost use Rattle.std.specs.Prelude.{◌≡◌, ◌≤◌, ◌+◌, ◌++◌, drop};
@@ -10,7 +11,7 @@ use crate::piece::Piece;
 use shr_base::places::Place;
 use shr_base::replies::Spent;
 
-/// A place. Our own.
+/// A place.
 #[inline(always)]
 pub fn add_place(piece: &mut Piece, end: usize, place: Place) -> usize
     requires { (63 ≤ end) × (end ≤ 512) }
@@ -23,7 +24,7 @@ pub fn add_place(piece: &mut Piece, end: usize, place: Place) -> usize
     piece.number(start, place.id as u64)
 }
 
-/// Which counter is used up. Our own.
+/// Which counter is used up.
 pub fn add_spent(piece: &mut Piece, end: usize, spent: &Spent) -> usize
     requires { (110 ≤ end) × (end ≤ 512) }
     ensures text { drop result piece.new ≡ spaced (spent_words spent.now) ++ drop end piece.old }

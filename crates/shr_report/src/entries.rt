@@ -1,3 +1,4 @@
+// SPDX-License-Identifier: GPL-2.0-only
 //! The lines of a list: its entries and its items.
 
 ghost use Rattle.std.specs.Prelude.{◌≡◌, ◌≤◌, ◌+◌, ◌++◌, ◌∷◌, [], codes, drop, flat_map, length};
@@ -378,7 +379,7 @@ fn items<K: Sink>(out: &mut Paper<K>, piece: &mut Piece, items: &Items)
     }
 }
 
-/// A list: its place, its journal, and its items from the head. Our own.
+/// A list: its place, its journal, and its items from the head.
 pub fn place<K: Sink>(out: &mut Paper<K>, piece: &mut Piece, end: &PlaceEnd)
     ensures printed { Prints K.written K.faults out.old out.new (place_lines end.now) }
     ensures numbers { IsListNumbered end.now }

@@ -1,3 +1,4 @@
+// SPDX-License-Identifier: GPL-2.0-only
 //! How a report is printed, and that its text determines it.
 #![tactic(auto)]
 

@@ -1,3 +1,4 @@
+// SPDX-License-Identifier: GPL-2.0-only
 //! Lines of words on a paper.
 //!
 //! Lines that a long run has many of are printed from pieces (`piece.rt`), any other from an array of its words.
@@ -13,7 +14,7 @@ use shr_base::places::Place;
 use shr_outside::outside::Sink;
 use shr_outside::paper::Paper;
 
-/// A word of a line. Our own.
+/// A word of a line.
 #[derive(Clone, Copy)]
 pub enum Word<'a> {
     /// Bytes as they are.
@@ -24,7 +25,7 @@ pub enum Word<'a> {
     Number(u64),
 }
 
-/// A space and a text. Our own.
+/// A space and a text.
 #[inline(always)]
 pub fn add_text<K: Sink>(out: &mut Paper<K>, text: &[u8])
     ensures { Prints K.written K.faults out.old out.new (32 ∷ text.now) }
@@ -33,7 +34,7 @@ pub fn add_text<K: Sink>(out: &mut Paper<K>, text: &[u8])
     out.put(text);
 }
 
-/// A space and a value, behind its `=`. Our own.
+/// A space and a value, behind its `=`.
 #[inline]
 pub fn add_value<K: Sink>(out: &mut Paper<K>, value: &[u8])
     ensures { Prints K.written K.faults out.old out.new (32 ∷ 61 ∷ value.now) }
@@ -62,7 +63,7 @@ fn put_word<K: Sink>(out: &mut Paper<K>, word: &Word)
     }
 }
 
-/// A last word behind its space, and the line feed. Our own.
+/// A last word behind its space, and the line feed.
 #[inline]
 pub fn end_with<K: Sink>(out: &mut Paper<K>, text: &[u8])
     ensures { Prints K.written K.faults out.old out.new (32 ∷ (text.now ++ 10 ∷ [])) }
@@ -89,7 +90,7 @@ fn put_rest<K: Sink>(out: &mut Paper<K>, words: &[Word])
     out.put(b"\n");
 }
 
-/// A line of these words. Our own.
+/// A line of these words.
 pub fn put_line<K: Sink>(out: &mut Paper<K>, first: &[u8], words: &[Word])
     ensures { Prints K.written K.faults out.old out.new (line first.now (word_texts words.now)) }
 {
@@ -97,7 +98,7 @@ pub fn put_line<K: Sink>(out: &mut Paper<K>, first: &[u8], words: &[Word])
     put_rest(out, words)
 }
 
-/// A line of a place and an amount. Our own.
+/// A line of a place and an amount.
 pub fn put_amount<K: Sink>(out: &mut Paper<K>, first: &[u8], place: Place, amount: u64)
     ensures printed { Prints K.written K.faults out.old out.new
         (line first.now (numeral place.id ∷ numeral place.node ∷ numeral place.group

@@ -1,3 +1,4 @@
+// SPDX-License-Identifier: GPL-2.0-only
 //! The lines of a command behind its answer: its isolations, its walks, its carries and its walks of
 //! the pools.
 
@@ -19,7 +20,7 @@ use shr_base::walks::{Carry, Isolation, PlainWalk, WalkRecord};
 use shr_outside::outside::Sink;
 use shr_outside::paper::Paper;
 
-/// How many isolations, walks, carries and walks of the pools of a worker are printed. Our own.
+/// How many isolations, walks, carries and walks of the pools of a worker are printed.
 #[derive(Clone, Copy)]
 pub struct Printed {
     pub isolations: usize,
@@ -118,7 +119,7 @@ fn isolations<K: Sink>(out: &mut Paper<K>, piece: &mut Piece, isolations: &[Isol
     }
 }
 
-/// The lines of a command behind its answer, and how much is printed then. Our own.
+/// The lines of a command behind its answer, and how much is printed then.
 pub fn logs<K: Sink>(
     out: &mut Paper<K>,
     piece: &mut Piece,

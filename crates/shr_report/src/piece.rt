@@ -1,3 +1,4 @@
+// SPDX-License-Identifier: GPL-2.0-only
 //! A piece of a line, written from its last word to its first.
 
 ghost use Rattle.std.specs.Prelude.{◌≡◌, ◌<◌, ◌≤◌, ◌+◌, [], ◌∷◌, ◌++◌, codes, drop, length};
@@ -18,7 +19,6 @@ const ROOM: usize = 512;
 ///
 /// The piece is what stands from an index on. Each function takes this index, puts something before it and returns
 /// where the piece begins now. The index is no field, so that it isn't stored and read again at each byte.
-/// Our own.
 #[derive(Drop)]
 pub struct Piece {
     bytes: [u8; ROOM],
@@ -44,13 +44,13 @@ fn hex_digit_of(n: u64) -> u8
 }
 
 impl Piece {
-    /// Any bytes. Our own.
+    /// Any bytes.
     #[inline(always)]
     pub fn new() -> Piece {
         Piece { bytes: [0; ROOM] }
     }
 
-    /// Nothing yet. Our own.
+    /// Nothing yet.
     #[tactic(auto, using(std::proofs::lemmas::List::drop_all))]
     #[inline(always)]
     pub fn nothing(&self) -> usize
@@ -61,7 +61,7 @@ impl Piece {
         bytes.len()
     }
 
-    /// The end of a line. Our own.
+    /// The end of a line.
     #[inline(always)]
     pub fn line_end(&mut self) -> usize
         ensures text { drop result self.new ≡ 10 ∷ [] }
@@ -71,7 +71,7 @@ impl Piece {
         self.byte(end, b'\n')
     }
 
-    /// A byte. Our own.
+    /// A byte.
     #[inline(always)]
     pub fn byte(&mut self, end: usize, byte: u8) -> usize
         requires { (1 ≤ end) × (end ≤ 512) }
@@ -93,7 +93,7 @@ impl Piece {
         write_digits(n, &mut self.bytes, end)
     }
 
-    /// A space and a number. Most have one digit. Our own.
+    /// A space and a number. Most have one digit.
     #[tactic(auto, using(crate::proofs::Pieces::one_digit))]
     #[inline(always)]
     pub fn number(&mut self, end: usize, n: u64) -> usize
@@ -109,7 +109,7 @@ impl Piece {
         self.byte(start, b' ')
     }
 
-    /// A space and a number of either sign. Our own.
+    /// A space and a number of either sign.
     #[inline(always)]
     pub fn signed(&mut self, end: usize, n: i64) -> usize
         requires { (22 ≤ end) × (end ≤ 512) }
@@ -123,7 +123,7 @@ impl Piece {
         self.byte(start, b' ')
     }
 
-    /// A space and a `+` where the test holds, a `-` where it doesn't. Our own.
+    /// A space and a `+` where the test holds, a `-` where it doesn't.
     #[inline(always)]
     pub fn sign(&mut self, end: usize, test: bool) -> usize
         requires { (2 ≤ end) × (end ≤ 512) }
@@ -157,7 +157,7 @@ impl Piece {
         start
     }
 
-    /// A space and a word of a table, in sixteen hexadecimal digits. Our own.
+    /// A space and a word of a table, in sixteen hexadecimal digits.
     #[inline(always)]
     pub fn hex(&mut self, end: usize, n: u64) -> usize
         requires { (17 ≤ end) × (end ≤ 512) }
@@ -169,7 +169,6 @@ impl Piece {
     }
 
     /// Bytes as they are, of a length that the compiler knows: it makes a few stores of the loop.
-    /// Our own.
     #[inline(always)]
     pub fn exactly(&mut self, end: usize, bytes: &[u8]) -> usize
         requires { (length bytes.now ≤ end) × (end ≤ 512) }
@@ -185,7 +184,7 @@ impl Piece {
         start
     }
 
-    /// A space and a word, of a length that the compiler knows. Our own.
+    /// A space and a word, of a length that the compiler knows.
     #[inline(always)]
     pub fn word(&mut self, end: usize, word: &[u8]) -> usize
         requires { (length word.now + 1 ≤ end) × (end ≤ 512) }
@@ -197,7 +196,6 @@ impl Piece {
     }
 
     /// A space and one word where the test holds, another where it doesn't, each of a length that the compiler knows.
-    /// Our own.
     #[inline(always)]
     pub fn either(&mut self, end: usize, test: bool, yes: &[u8], no: &[u8]) -> usize
         requires { (length yes.now + 1 ≤ end) × (length no.now + 1 ≤ end) × (end ≤ 512) }
@@ -212,7 +210,7 @@ impl Piece {
         }
     }
 
-    /// Bytes of any length. Our own.
+    /// Bytes of any length.
     #[inline(always)]
     pub fn copied(&mut self, end: usize, bytes: &[u8]) -> usize
         requires { (length bytes.now ≤ end) × (end ≤ 512) }
@@ -224,7 +222,7 @@ impl Piece {
         start
     }
 
-    /// A space and a text. Our own.
+    /// A space and a text.
     #[inline(always)]
     pub fn text(&mut self, end: usize, text: &[u8]) -> usize
         requires { (length text.now + 1 ≤ end) × (end ≤ 512) }
@@ -235,7 +233,7 @@ impl Piece {
         self.byte(start, b' ')
     }
 
-    /// A space and a value behind its `=`. Our own.
+    /// A space and a value behind its `=`.
     #[inline(always)]
     pub fn value(&mut self, end: usize, value: &[u8]) -> usize
         requires { (length value.now + 2 ≤ end) × (end ≤ 512) }
@@ -247,7 +245,7 @@ impl Piece {
         self.byte(start, b' ')
     }
 
-    /// Puts the piece on a paper. Our own.
+    /// Puts the piece on a paper.
     #[inline(always)]
     pub fn put<K: Sink>(&self, start: usize, out: &mut Paper<K>)
         requires { start ≤ 512 }

@@ -1,3 +1,4 @@
+// SPDX-License-Identifier: GPL-2.0-only
 //! The lines of a walk of the pools, and of an isolation.
 
 ghost use Rattle.std.specs.Prelude.{◌≡◌, ◌<◌, ◌≤◌, ◌+◌, ◌^◌, ◌++◌, ◌∷◌, codes, drop};
@@ -97,7 +98,7 @@ fn put_plain<K: Sink>(out: &mut Paper<K>, piece: &mut Piece, number: usize, walk
     piece.put(start, out)
 }
 
-/// A walk of the pools, by its number within its worker. Our own.
+/// A walk of the pools, by its number within its worker.
 pub fn plain_walk<K: Sink>(out: &mut Paper<K>, piece: &mut Piece, number: usize, walk: &PlainWalk)
     ensures printed { Prints K.written K.faults out.old out.new (plain_lines number walk.now) }
     ensures numbers { IsPlainNumbered walk.now }
@@ -109,7 +110,7 @@ pub fn plain_walk<K: Sink>(out: &mut Paper<K>, piece: &mut Piece, number: usize,
     tries(out, piece, walk.tries.as_slice())
 }
 
-/// An isolation. Our own.
+/// An isolation.
 pub fn isolation<K: Sink>(out: &mut Paper<K>, piece: &mut Piece, done: &Isolation)
     ensures printed { Prints K.written K.faults out.old out.new (isolation_line done.now) }
     ensures numbers { IsIsolationNumbered done.now }

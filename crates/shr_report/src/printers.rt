@@ -1,3 +1,4 @@
+// SPDX-License-Identifier: GPL-2.0-only
 //! Who prints the body of a report.
 
 ghost use Rattle.std.specs.Prelude.{flat_map};
@@ -18,7 +19,7 @@ use shr_outside::outside::Sink;
 use shr_outside::paper::Paper;
 
 /// Who prints the body of a report: all from the workers' parts to the operations. All print the same
-/// text; one that has threads may print parts of it side by side. Our own.
+/// text; one that has threads may print parts of it side by side.
 pub trait Printer {
     /// Prints the body.
     fn body<K: Sink>(&self, out: &mut Paper<K>, report: &Report)
@@ -26,7 +27,7 @@ pub trait Printer {
         ensures numbers { IsBodyNumbered report.now };
 }
 
-/// Prints a body from its first line to its last. Our own.
+/// Prints a body from its first line to its last.
 #[derive(Clone, Copy)]
 pub struct Alone;
 
@@ -39,7 +40,7 @@ impl Printer for Alone {
     }
 }
 
-/// The lists one after the other. Our own.
+/// The lists one after the other.
 pub fn put_places<K: Sink>(out: &mut Paper<K>, ends: &[PlaceEnd])
     ensures printed { Prints K.written K.faults out.old out.new (flat_map place_lines ends.now) }
     ensures numbers { AllByRecursion IsListNumbered ends.now }

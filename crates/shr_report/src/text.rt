@@ -1,3 +1,4 @@
+// SPDX-License-Identifier: GPL-2.0-only
 //! The text of a report.
 
 ghost use Rattle.std.specs.Prelude.{◌≡◌, ◌≤◌, ◌^◌, ◌⊎◌, IfOk, OnOk, OnErr, ◌∷◌, [], sum_by, length};
@@ -221,7 +222,7 @@ fn print_on<K: Sink, P: Printer>(
 }
 
 /// Prints a report to a sink, its body by this printer, and tells whether the sink has got all of it, or
-/// failed and has a front of it. The sink gets the text a page at a time. Our own.
+/// failed and has a front of it. The sink gets the text a page at a time.
 ///
 /// `Memory` comes where a report has more answers or walks than 64 bits count, and then nothing was
 /// printed. The bytes of a well formed report determine it, and its numbers have the ranges of their
@@ -247,7 +248,6 @@ pub fn print_by<K: Sink, P: Printer>(
 }
 
 /// Prints a report to a sink as `print_by` does, without threads. The text is never whole in memory.
-/// Our own.
 pub fn print<K: Sink>(report: &Report, sink: &mut K) -> Result<bool, Memory>
     ensures written { IfOk result (λ done. Writes (K.written sink.old) (K.written sink.new)
         (K.faults sink.old) (K.faults sink.new) (text report.now) done) }

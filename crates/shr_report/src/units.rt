@@ -1,3 +1,4 @@
+// SPDX-License-Identifier: GPL-2.0-only
 //! The lines of the pools of units at the end of a run.
 
 ghost use Rattle.std.specs.Prelude.{◌≡◌, ◌≤◌, [], ◌∷◌, codes, drop, flat_map};
@@ -80,7 +81,7 @@ fn pool_end<K: Sink>(out: &mut Paper<K>, end: &UnitsEnd)
     entries(out, end.entries.as_slice())
 }
 
-/// The pools' journals. Our own.
+/// The pools' journals.
 pub fn pool_ends<K: Sink>(out: &mut Paper<K>, ends: &[UnitsEnd])
     ensures printed { Prints K.written K.faults out.old out.new (flat_map units_lines ends.now) }
     ensures numbers { AllByRecursion AreUnitsNumbered ends.now }
@@ -107,7 +108,7 @@ fn pool_word<K: Sink>(out: &mut Paper<K>, place: Place, amount: u64)
     )
 }
 
-/// The pools' deferred words. Our own.
+/// The pools' deferred words.
 pub fn pool_words<K: Sink>(out: &mut Paper<K>, words: &[PlaceAmount])
     ensures { Prints K.written K.faults out.old out.new (flat_map pool_deferred_line words.now) }
 {

@@ -1,3 +1,4 @@
+// SPDX-License-Identifier: GPL-2.0-only
 //! The words of an answer that isn't of a place's entry.
 
 ghost use Rattle.std.specs.Prelude.{◌≡◌, ◌≤◌, ◌+◌, ◌++◌, ◌∷◌, [], drop, length};
@@ -196,7 +197,7 @@ fn add_half(piece: &mut Piece, end: usize, reply: &Reply) -> usize
     }
 }
 
-/// How an isolation ended. Our own.
+/// How an isolation ended.
 pub fn add_isolate_end(piece: &mut Piece, end: usize, ending: &IsolateEnd) -> usize
     requires { (115 ≤ end) × (end ≤ 512) }
     ensures text { drop result piece.new
@@ -289,7 +290,7 @@ fn add_of_pool(piece: &mut Piece, end: usize, reply: &Reply) -> usize
     }
 }
 
-/// A reply that isn't of a place's entry. Our own.
+/// A reply that isn't of a place's entry.
 pub fn add_answer(piece: &mut Piece, end: usize, reply: &Reply) -> usize
     requires reply { IsUnplaced reply.now }
     requires room { (225 ≤ end) × (end ≤ 512) }

@@ -1,3 +1,4 @@
+// SPDX-License-Identifier: GPL-2.0-only
 //! The lines of the operations on groups' usages.
 
 ghost use Rattle.std.specs.Prelude.{◌≡◌, ◌≤◌, ◌+◌, ◌++◌, ◌∷◌, [], drop, flat_map, length};
@@ -62,7 +63,7 @@ fn few_uses(piece: &mut Piece, steps: &[UseStep]) -> usize
     start
 }
 
-/// The lines of operations, one after the other. Our own.
+/// The lines of operations, one after the other.
 pub fn put_uses<K: Sink>(out: &mut Paper<K>, steps: &[UseStep])
     ensures printed { Prints K.written K.faults out.old out.new (flat_map use_line steps.now) }
     ensures numbers { AllByRecursion IsUseNumbered steps.now }

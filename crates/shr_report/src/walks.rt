@@ -1,3 +1,4 @@
+// SPDX-License-Identifier: GPL-2.0-only
 //! The lines of a walk.
 
 ghost use Rattle.std.specs.Prelude.{◌≡◌, ◌<◌, ◌≤◌, ◌+◌, ◌^◌, ◌++◌, ◌∷◌, codes, drop, flat_map, length};
@@ -35,7 +36,7 @@ fn add_ending(piece: &mut Piece, end: usize, ending: &Ending) -> usize
     }
 }
 
-/// A pass. It is one function for all attempts that ran one, and for walks of the pools. Our own.
+/// A pass. It is one function for all attempts that ran one, and for walks of the pools.
 pub fn add_ran(piece: &mut Piece, end: usize, pass: &PassRecord) -> usize
     requires { (287 ≤ end) × (end ≤ 512) }
     ensures text { drop result piece.new
@@ -285,7 +286,7 @@ fn put_walk<K: Sink>(out: &mut Paper<K>, piece: &mut Piece, number: usize, walk:
     piece.put(start, out)
 }
 
-/// A walk, by its number within its worker. Our own.
+/// A walk, by its number within its worker.
 pub fn walk<K: Sink>(out: &mut Paper<K>, piece: &mut Piece, number: usize, walk: &WalkRecord)
     ensures printed { Prints K.written K.faults out.old out.new (walk_lines number walk.now) }
     ensures numbers { IsWalkNumbered walk.now }

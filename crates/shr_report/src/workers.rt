@@ -1,3 +1,4 @@
+// SPDX-License-Identifier: GPL-2.0-only
 //! The lines of the workers: each answer with what else stands of its command.
 
 ghost use Rattle.shr_outside.specs.Paper.{Prints};
@@ -15,7 +16,7 @@ use shr_base::ends::WorkerPart;
 use shr_outside::outside::Sink;
 use shr_outside::paper::Paper;
 
-/// The answers of a worker, each with what else stands of its command. Our own.
+/// The answers of a worker, each with what else stands of its command.
 pub fn put_answers<K: Sink>(out: &mut Paper<K>, worker: usize, part: &WorkerPart)
     ensures printed { Prints K.written K.faults out.old out.new (worker_lines worker part.now) }
     // What is of a command that has no answer isn't printed.
@@ -35,7 +36,7 @@ pub fn put_answers<K: Sink>(out: &mut Paper<K>, worker: usize, part: &WorkerPart
     }
 }
 
-/// The parts of the workers, numbered from 0, one after the other. Our own.
+/// The parts of the workers, numbered from 0, one after the other.
 pub fn put_workers<K: Sink>(out: &mut Paper<K>, parts: &[WorkerPart])
     ensures printed { Prints K.written K.faults out.old out.new
         (numbered worker_lines 0 parts.now) }

@@ -1,3 +1,4 @@
+-- SPDX-License-Identifier: GPL-2.0-only
 -- What is left of a run, from its steps.
 use Rattle.shr_run.proofs.Common.{◌≡◌, ℕ, zero, suc, ◌<◌, ◌≤◌, List, [], ◌∷◌, length, map, refl, sym, ap, subst, ◌∙◌, arith, slice_get, Option, Some, None, option_map, All, IsTrue, append-nil, length-map, slice_get_within, slice_get-map, same_Some, View, view_of, ArePoolsOf, PlainSeated, Shared, IsShared, Ends, AreReady, AreEntered, CrewSeats, FirstCrew, Tables, Held, held_by, held_in, AreFirstIn, HasLeft, HaveLeft, AreParted, command_serial, Starting, WorkerResult, Sweep, WorkerScript, SweepItem, there_at, all_slice, WorkerLog, Firsts, with_workers, HasHelped, all_popped, AreEnds, IsAtEnd, AreJoinedAll, firsts_of, last_of, log_of, IsWorkerDone, AreSplitOff, AreTasks, ◌^◌, IsFromStart, CrewState, listed_commands, worker_commands, IsWorkOf, firsts_at_start, new_worker, HelpsWith, HasWorked, ArePoppedOnce, SweepsIf, HaveRun}
 use Rattle.shr_core.specs.Gained.{IsIdle}

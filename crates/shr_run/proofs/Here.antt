@@ -1,3 +1,4 @@
+-- SPDX-License-Identifier: GPL-2.0-only
 -- The tasks that are run one after another: those that are left, and what the others gave.
 use Rattle.shr_run.proofs.Common.{◌≡◌, ℕ, suc, ◌+◌, ◌<◌, ◌≤◌, List, [], ◌∷◌, ◌++◌, length, length-append, refl, sym, ap, subst, ◌∙◌, arith, append_assoc, append-nil, inl, inr, slice_get, Some, none-some, slice_get_within, Starting, WorkerResult, HaveRun}
 use Rattle.std.proofs.Math.Nat.{eq-or-lt_of_le}

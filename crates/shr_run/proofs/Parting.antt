@@ -1,3 +1,4 @@
+-- SPDX-License-Identifier: GPL-2.0-only
 -- One worker's seats more joined into the first ones.
 use Rattle.shr_run.proofs.Common.{◌≡◌, ℕ, ◌+◌, List, [], ◌∷◌, ◌++◌, length, map, sym, ap, subst, ◌∙◌, arith, append_assoc, All, IsTrue, All-cons, Standing, View, WorkerResult, CrewSeats, Held, held_by, AreFirst, AreParted, WorkerLog, Firsts, with_workers, IsAtEnd, AreJoinedAll, firsts_of, last_of, log_of, seats_in, AreJoined, with_worker}
 use Rattle.std.proofs.lemmas.List.Elements.{All-tail}

@@ -1,3 +1,4 @@
+-- SPDX-License-Identifier: GPL-2.0-only
 -- The passes of a sweep are handed out and joined, one helper after another.
 use Rattle.shr_run.proofs.Common.{◌≡◌, ℕ, suc, ◌+◌, ◌<◌, List, [], ◌∷◌, ◌++◌, length, length-append, map, sym, refl, ap, subst, ◌∙◌, arith, append_assoc, All, IsTrue, flat_map, slice_get, Option, Some, None, true, append-nil, All-cons, All-nil, Standing, at_first, SweepItem, JobQueue, PassView, queue_line, WorkerResult, Shared, Helped, Helping, popped_of, HasPass, AreOnce, handed_out, map-append, All-append, IsWhole}
 use Rattle.std.specs.List.{range_with_len}

@@ -1,3 +1,4 @@
+-- SPDX-License-Identifier: GPL-2.0-only
 -- Seats for one worker more.
 use Rattle.shr_run.proofs.Common.{◌≡◌, ℕ, zero, suc, ◌+◌, ◌<◌, ◌≤◌, Bool, true, false, List, [], ◌∷◌, ◌++◌, length, length-append, refl, sym, ap, subst, ◌∙◌, arith, slice_get, Some, length-map, slice_get_within, Standing, at_first, View, view_of, ArePoolsOf, content_of, within_of_valid, Shared, IsShared, seats_at, Starting, Tables, CrewSeats, FirstCrew, Held, AreReady, AreFirst, AreSplitOff, IsTaskOf, AreTasks, inl, inr, EntersIf, AreEntered, IsPlainReady, is_on, AreSplit, AreNew}
 use Rattle.std.proofs.Math.Nat.{eq-or-lt_of_le}

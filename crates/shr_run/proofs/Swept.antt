@@ -1,3 +1,4 @@
+-- SPDX-License-Identifier: GPL-2.0-only
 -- What the helpers of a sweep did, by the results of the workers.
 use Rattle.shr_run.proofs.Common.{◌≡◌, ℕ, ◌+◌, ◌<◌, ◌≤◌, List, [], ◌∷◌, ◌++◌, length, map, sym, refl, ap, subst, ◌∙◌, arith, All, IsTrue, flat_map, slice_get, Option, Some, None, option_map, length-map, slice_get-map, slice_get_within, same_Some, Sweep, WorkerScript, content_of, within_of_valid, PlainSeated, SweepItem, JobQueue, PassView, queue_line, IsShared, Shared, WorkerResult, command_serial, parents_of, HasHelped, there_at, all_slice, all_popped, Helped, Helping, helped_of, last_of, IsWorkerDone, worker_of, popped_of, HasPass, HasHelpedOut, IsPassBack, AreOnce, HaveSwept, IfSome, shape_of, sweep_reply, IsHelperReady, HaveHelpedOut, HasAnswered, HasSweptAt}
 use Rattle.shr_base.specs.declared.replies.Answered.{Answered}

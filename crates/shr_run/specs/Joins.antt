@@ -1,3 +1,4 @@
+-- SPDX-License-Identifier: GPL-2.0-only
 -- What the workers leave, and their joining.
 use Rattle.std.specs.Prelude.{◌≡◌, ℕ, ◌+◌, List, length, map}
 use Rattle.shr_core.specs.Seats.{view_of}

@@ -1,3 +1,4 @@
+-- SPDX-License-Identifier: GPL-2.0-only
 -- The report of a run.
 use Rattle.std.specs.Prelude.{◌≡◌, List}
 use Rattle.shr_base.specs.declared.scripts.Script.{Script}

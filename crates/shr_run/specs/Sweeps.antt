@@ -1,3 +1,4 @@
+-- SPDX-License-Identifier: GPL-2.0-only
 -- The sweep of a script: what its helpers are given, what they did, and what their passes popped.
 use Rattle.std.specs.Prelude.{◌≡◌, ℕ, ◌≤◌, List, [], ◌∷◌, ◌++◌, length, slice_get, Option, Some, None, All, IsTrue}
 use Rattle.shr_base.specs.declared.replies.Answered.{Answered}

@@ -1,3 +1,4 @@
+// SPDX-License-Identifier: GPL-2.0-only
 //! The workers' seats, joined once they are done.
 
 ghost use Rattle.std.specs.Prelude.{◌≡◌, IfOk, OnOk, All, IsTrue, map};
@@ -12,7 +13,7 @@ use shr_worker::tasks::WorkerResult;
 use std::alloc::Global;
 
 /// Joins the seats of all workers into the first ones, in order, and gives what each worker
-/// answered and noted. `Memory` comes for want of memory, here or in a worker. Our own.
+/// answered and noted. `Memory` comes for want of memory, here or in a worker.
 pub(crate) fn join_all<'a>(
     alloc: Global,
     first: &mut CrewSeats<'a>,

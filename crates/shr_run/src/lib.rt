@@ -1,3 +1,4 @@
+// SPDX-License-Identifier: GPL-2.0-only
 //! The run of a script on threads, and its report.
 //!
 //! What belongs here: the workers of a script as the items of one call of `map_vec`, each with

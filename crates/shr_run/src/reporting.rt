@@ -1,3 +1,4 @@
+// SPDX-License-Identifier: GPL-2.0-only
 //! The report of a script's run.
 
 ghost use Rattle.std.specs.Prelude.{◌≡◌, ◌+◌, IfOk};
@@ -22,7 +23,7 @@ use std::thread::Threads;
 /// Runs a valid script, its workers on threads, and reports it. Whatever the order of their
 /// steps, the report is lawful and faithful, what was added was freed or is listed, and each put
 /// that nothing is in the way of was added, but where there was no memory or a counter was used
-/// up. `Memory` comes for want of memory. It waits as the workers do. Our own.
+/// up. `Memory` comes for want of memory. It waits as the workers do.
 pub fn run_and_report<R: Threads + Wait + Sync, G: Gate + Sync>(
     rt: &R,
     alloc: Global,

@@ -1,3 +1,4 @@
+// SPDX-License-Identifier: GPL-2.0-only
 //! A run, from a script to what its tables and its workers leave.
 
 ghost use Rattle.std.specs.Prelude.{◌≡◌, IfOk};
@@ -19,7 +20,7 @@ use std::sync::Wait;
 use std::thread::Threads;
 
 /// What is left of a run: the ends of its tables, with its script, and the log of each worker, in
-/// order. Our own.
+/// order.
 #[derive(Drop)]
 pub(crate) struct Ran {
     pub ends: Ends,
@@ -28,7 +29,7 @@ pub(crate) struct Ran {
 
 /// Opens the tables of a valid script, runs its workers on threads, makes its sweep if it has
 /// one, joins their seats and ends the tables. `Memory` comes for want of memory. It waits as the
-/// workers and the helpers do. Our own.
+/// workers and the helpers do.
 pub(crate) fn run<R: Threads + Wait + Sync, G: Gate + Sync>(
     rt: &R,
     alloc: Global,

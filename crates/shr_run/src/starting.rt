@@ -1,3 +1,4 @@
+// SPDX-License-Identifier: GPL-2.0-only
 //! Seats for all workers.
 
 ghost use Rattle.std.specs.Prelude.{◌≡◌, IfOk, OnOk, length, vec_len};
@@ -14,7 +15,7 @@ use std::alloc::Global;
 use std::sync::Wait;
 
 /// A task for each worker of the script, in order, each with seats split off the first ones.
-/// `Memory` comes for want of memory. Our own.
+/// `Memory` comes for want of memory.
 pub(crate) fn split_all<'a, R: Wait>(
     rt: &'a R,
     alloc: Global,

@@ -1,3 +1,4 @@
+// SPDX-License-Identifier: GPL-2.0-only
 //! The sweep of a script, by as many helpers as it has workers.
 
 ghost use Rattle.std.specs.Prelude.{◌≡◌, ◌<◌, ◌≤◌, ℕ, [], All, IfOk, OnOk, IsTrue, length, map, flat_map, vec_len};
@@ -27,7 +28,7 @@ use std::thread;
 use std::thread::Threads;
 
 /// A worker that is done with its commands, and a pass to help with; with the runtime and the
-/// tables that it runs with. Our own.
+/// tables that it runs with.
 #[derive(Drop)]
 pub(crate) struct Helper<'a, R: Wait> {
     pub rt: &'a R,
@@ -44,7 +45,7 @@ impl<'a, R: Wait> Model for Helper<'a, R> {
     ghost view = { λ h. record { shared = h.shared.now; worker = h.worker; pass = h.pass } };
 }
 
-/// A worker that has helped, and its pass. Our own.
+/// A worker that has helped, and its pass.
 #[derive(Drop)]
 pub(crate) struct Helped<'a> {
     pub worker: WorkerResult<'a>,
@@ -222,7 +223,7 @@ fn sweep_all<'a, R: Threads + Wait + Sync, G: Gate + Sync>(
 /// Makes the sweep of the script, if it has one: the workers' seats go to as many helpers, which
 /// work off one queue. `Memory` comes for want of memory; if it comes for the queue, or in a
 /// worker before, no helper starts. The gate is called before each helper starts. It waits as the
-/// helpers do. Our own.
+/// helpers do.
 pub(crate) fn sweep_if<'a, R: Threads + Wait + Sync, G: Gate + Sync>(
     rt: &'a R,
     alloc: Global,

@@ -1,3 +1,4 @@
+// SPDX-License-Identifier: GPL-2.0-only
 //! The workers on threads.
 
 ghost use Rattle.std.specs.Prelude.{◌≡◌, All, IfOk, vec_len};
@@ -15,7 +16,7 @@ use std::sync::Wait;
 use std::thread;
 use std::thread::Threads;
 
-/// A worker that can start: its task, with the runtime and the tables that it runs with. Our own.
+/// A worker that can start: its task, with the runtime and the tables that it runs with.
 #[derive(Drop)]
 pub(crate) struct Start<'a, R: Wait> {
     pub rt: &'a R,

@@ -1,3 +1,4 @@
+-- SPDX-License-Identifier: GPL-2.0-only
 -- A valid script is within its bounds.
 use Rattle.shr_script.proofs.Common.{◌≡◌, ℕ, zero, suc, ◌+◌, ◌≤◌, ◌<◌, Bool, true, false, cond, List, [], ◌∷◌, ◌++◌, length, map, inl, inr, ◌⊎◌, Option, Some, None, Ok, refl, sym, ap, subst, ◌∙◌, arith, flat_map, nat_le, nat_lt, sum_by, IfSome, AllByRecursion, length_push, sum_by-cons, is_path, GroupDecl, CacheDecl, PoolDecl, Command, ◌>>=◌, Word, L, W, IsOfClass, flag_place, bind_ok, Group, Cache, Pool, Phase, Start, Sizes, Groups, Caches, Pools, Workers, Swept, Done, State, start, after, has, refused_if, most_ids, most_groups, is_served, misplaced, unless, IsLine, Content, group_line, cache_line, pool_line, worker_command_lines, sweep_lines, end_line, declarations, lines_of, IsValid, IsPoolWithin, IsSweepWithin, count_by, IsWithin}
 use Rattle.shr_model.specs.Words.{is_name}

@@ -1,3 +1,4 @@
+-- SPDX-License-Identifier: GPL-2.0-only
 -- What the commands of a valid script name is there.
 use Rattle.shr_script.proofs.Common.{◌≡◌, ℕ, ◌+◌, ◌≤◌, ◌<◌, Bool, true, false, List, [], ◌∷◌, length, map, get_or, sym, subst, ◌∙◌, arith, flat_map, ◌&&◌, ◌==◌, AllByRecursion, is_later, Code, Command, Target, Word, NameTest, Plain, Number, N, W, IsOfClass, place_takes, Worker, Isolate, Release, Grab, State, after, group_class, later_class, node_class, pool_class, state_after_lines, IsLine, Content, command_line, worker_command_lines, IsIsolationWithin, IsPoolCommandWithin, IsCommandWithin, content_later, and_true, cache_class, serves_pools, serves_isolation, IsGroup, IsCache, IsPool, IsObjectWithin, IsWalkWithin, IfServed}
 use Rattle.std.proofs.lemmas.Bool.{eqb-true}

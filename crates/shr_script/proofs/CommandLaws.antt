@@ -1,3 +1,4 @@
+-- SPDX-License-Identifier: GPL-2.0-only
 -- A line in one form for all kinds: its words, its rule, and what it says and adds.
 use Rattle.shr_script.proofs.Common.{◌≡◌, List, refl, nat_le, Result, Ok, Err, Code, ◌>>=◌, Word, Item, items_said, Kind, Header, Size, Group, Cache, Pool, Worker, Work, Sweep, End, Verb, State, classes, verb_classes, own, after, refused_if, Drafted, command_by, added}
 use Rattle.shr_base.specs.declared.scripts.Code.TheVariants as codes_of

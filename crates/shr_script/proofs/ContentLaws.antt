@@ -1,3 +1,4 @@
+-- SPDX-License-Identifier: GPL-2.0-only
 -- The lines of a valid script make that script.
 use Rattle.shr_script.proofs.Common.{◌≡◌, ℕ, Bool, true, false, List, [], ◌∷◌, ◌++◌, map, Option, Some, None, refl, sym, ap, ◌∙◌, append_assoc, flat_map, ◌==◌, append-nil, parent_path, GroupDecl, CacheDecl, PoolDecl, Command, Item, N, L, W, policy_place, policy_at, flag_place, place_of, Header, Size, Group, Cache, Pool, Worker, Phase, Start, Sizes, Groups, Caches, Pools, Workers, Swept, Done, State, start, Line, after, Content, group_line, cache_line, pool_line, command_line, worker_command_lines, sweep_lines, end_line, lines_of, or_root, HaveParentsBefore, IsValid, spell, Drafted, empty, content_by, cache_decl, pool_decl, with_command, added, flag_again, policy_again}
 use Rattle.shr_base.specs.declared.objects.Policy.{Policy}

@@ -1,3 +1,4 @@
+-- SPDX-License-Identifier: GPL-2.0-only
 -- Nothing is against a group of a valid script where it was declared.
 use Rattle.shr_script.proofs.Common.{◌≡◌, ℕ, zero, suc, ◌<◌, Bool, true, false, List, [], ◌∷◌, ◌++◌, length, map, get_or, Ok, sym, subst, append_assoc, arith, bytes_eq, flat_map, not, nat_le, ◌&&◌, nat_tests, append-nil, root_path, is_path, parent_path, GroupDecl, ◌>>=◌, Word, N, L, W, place_of, bind_ok, Header, Size, Group, State, start, Line, after, has, may_hold_group, refused_if, most_groups, Content, group_line, cache_line, pool_line, worker_command_lines, sweep_lines, end_line, lines_of, IsValid, take}
 use Rattle.shr_base.specs.declared.scripts.Code.TheVariants as codes_of

@@ -1,3 +1,4 @@
+-- SPDX-License-Identifier: GPL-2.0-only
 -- A script has few lines, since each counts towards a limit.
 use Rattle.shr_script.proofs.Common.{◌≡◌, ℕ, ◌+◌, ◌≤◌, ◌<◌, Bool, true, false, cond, List, [], ◌∷◌, ◌++◌, length, Option, Some, None, Result, Ok, refl, sym, ap, subst, ◌∙◌, arith, nat_le, nat_lt, not, bytes_eq, ◌&&◌, ◌==◌, length_push, root_path, parent_path, Code, ◌>>=◌, Word, Item, word_said, number_said, first, seventh, place_of, bind_ok, Kind, Header, Size, Group, Cache, Pool, Worker, Work, Sweep, End, Phase, Start, Sizes, Groups, Caches, Pools, Workers, Swept, Done, State, start, Line, misplaced, unless, own, after, has, may_hold_group, refused_if, most_groups, IsLine, IsScript, is_end_read, Drafted, added, part_step, ◌^◌}
 use Rattle.shr_base.specs.declared.scripts.Code.TheVariants as codes_of

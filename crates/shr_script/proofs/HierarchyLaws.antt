@@ -1,3 +1,4 @@
+-- SPDX-License-Identifier: GPL-2.0-only
 -- The groups of a valid script are a tree, and the parent of one that isn't later isn't later.
 use Rattle.shr_script.proofs.Common.{◌≡◌, ℕ, zero, suc, ◌<◌, Bool, true, false, List, [], ◌∷◌, ◌++◌, length, map, Option, Some, None, refl, sym, ap, subst, ◌∙◌, append_assoc, arith, bytes_eq, not, ◌&&◌, append-nil, length_push, bytes_eq-Decides, root_path, parent_path, is_later, GroupDecl, Word, N, L, W, place_takes, Header, Size, Group, State, start, after, has, may_hold_group, Content, group_line, or_root, HaveParentsBefore, ◌||◌, Hierarchy, IsHierarchy, content_hierarchy}
 use Rattle.shr_model.proofs.GroupsLaws.{IsHierarchy-push}

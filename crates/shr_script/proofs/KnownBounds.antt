@@ -1,3 +1,4 @@
+-- SPDX-License-Identifier: GPL-2.0-only
 -- What the commands of a small script may name.
 use Rattle.shr_script.proofs.Common.{◌≡◌, List, [], ◌∷◌, None, refl, arith, true, false, codes, Command, Target, Get, SetPin, Content, IsCommandWithin, IsIsolationWithin, IsPoolCommandWithin, IsPoolWithin, IsSweepWithin}
 use Rattle.shr_base.specs.declared.objects.Policy.TheVariants.{Plain as PlainPolicy}

@@ -1,3 +1,4 @@
+-- SPDX-License-Identifier: GPL-2.0-only
 -- The lines of pools, isolations and a sweep: their spelling, where they stand, and their faults.
 use Rattle.shr_script.proofs.Common.{◌≡◌, ℕ, zero, suc, true, false, List, [], ◌∷◌, codes, None, Some, Ok, Err, refl, root_path, Word, N, Number, Chosen, PoolKinds, item_of, Group, Cache, Pool, Worker, Work, Sweep, End, Put, Grab, Groups, Caches, Pools, Workers, Swept, State, start, misplaced, pool_class, Content, spell}
 use Rattle.std.specs.Fmt.{digits}

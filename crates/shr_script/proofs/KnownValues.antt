@@ -1,3 +1,4 @@
+-- SPDX-License-Identifier: GPL-2.0-only
 -- The spelling of a small script.
 use Rattle.shr_script.proofs.Common.{◌≡◌, true, false, [], ◌∷◌, codes, None, Some, Ok, Err, refl, root_path, Command, Target, Get, Del, SetPin, N, item_of, Groups, State, start, later_class, most_ids, most_groups, Content, spell}
 use Rattle.std.specs.Fmt.{digits}

@@ -1,3 +1,4 @@
+-- SPDX-License-Identifier: GPL-2.0-only
 -- The first line feed, as a search finds it and as the parts of bytes have it.
 use Rattle.std.proofs.Common.{◌≡◌, ℕ, List, Bool, true, false, Some, None, ◌<◌, length, refl, sym, arith, if◌then◌else◌}
 use Rattle.std.specs.List.{prefix_len}

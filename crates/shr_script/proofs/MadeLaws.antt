@@ -1,3 +1,4 @@
+-- SPDX-License-Identifier: GPL-2.0-only
 -- The lines of what lines make are these lines, and what a script's lines make is the script.
 use Rattle.shr_script.proofs.Common.{◌≡◌, ℕ, ◌+◌, Bool, true, List, [], ◌∷◌, ◌++◌, map, Option, None, Ok, refl, sym, ap, subst, ◌∙◌, append_assoc, flat_map, ◌==◌, append-nil, root_path, parent_path, GroupDecl, CacheDecl, PoolDecl, Command, Word, Number, Plain, Chosen, NameTest, PoolKinds, Item, N, W, IsOfClass, number_said, word_said, first, seventh, policy_place, policy_at, flag_place, place_of, Kind, Header, Size, Group, Cache, Pool, Worker, Work, Sweep, End, Verb, Put, On, Shrink, Balance, Offline, MkGroup, Register, Unregister, Isolate, Release, Grab, Phase, Start, Sizes, Groups, Caches, Pools, Workers, Swept, Done, State, start, Line, misplaced, unless, classes, verb_classes, group_class, node_class, after, IsLine, is_end_read, IsScript, Content, group_line, cache_line, pool_line, command_line, worker_command_lines, sweep_lines, end_line, declarations, lines_of, or_root, HaveParentsBefore, Drafted, empty, content_by, cache_decl, pool_decl, with_command, command_by, added, map_push, Class, Policies, Kinds, Starts, Walks, AreOf, second, third, fourth, fifth, sixth, behind_first, shape_is, chosen_below, flag_is, policy_is, header_line, size_line, worker_line, sweep_line}
 use Rattle.std.proofs.lemmas.List.Concat.{flat_map-append}

@@ -1,3 +1,4 @@
+-- SPDX-License-Identifier: GPL-2.0-only
 -- A line that begins with put is one of a put.
 use Rattle.shr_script.proofs.Common.{◌≡◌, ℕ, List, ◌++◌, refl, codes, Word, Work, Put, Workers, State, Drafted, kind_step}
 use Rattle.shr_model.specs.Pieces.{cut, pieces}

@@ -1,3 +1,4 @@
+-- SPDX-License-Identifier: GPL-2.0-only
 -- What a run says of the bytes.
 use Rattle.shr_script.proofs.Common.{◌≡◌, Bool, ℕ, List, Some, Result, Ok, Err, sym, ap, subst, ◌∙◌, ◌⊎◌, inl, inr, refl, Code, pieces, next_part, Word, said_state, State, Line, start, IsScript, IsFault, Fault, lines_read, ◌>>>◌, state_after_lines, is_last, Content, lines_of, Drafted, drafted, empty, content_by, part_step, run_from, run_of, spell_lines, IsSpelling, made_by, Ends, error_at, Runs, ReadsScript, IsCause, TellsFault}
 use Rattle.shr_script.specs.declared.stopped.Stopped.{Stopped}

@@ -1,3 +1,4 @@
+-- SPDX-License-Identifier: GPL-2.0-only
 -- A run over the parts of a script is the reading of its lines, and what they make.
 use Rattle.shr_script.proofs.Common.{◌≡◌, ℕ, ◌+◌, Bool, true, false, cond, ◌&&◌, List, [], ◌∷◌, Option, Some, None, Result, Ok, Err, refl, sym, ap, subst, ◌∙◌, bytes_eq, Code, pieces, next_part, ◌>>=◌, Word, Item, items_said, Kind, Phase, Start, Sizes, Groups, Caches, Pools, Workers, Swept, Done, State, Line, classes, own, after, as_header, is_end_read, part_verdict, is_last, Fault, ◌>>>◌, at_line, behind, Drafted, added, kind_step}
 use Rattle.shr_base.specs.declared.scripts.Code.TheVariants as codes_of

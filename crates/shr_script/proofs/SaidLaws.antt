@@ -1,3 +1,4 @@
+-- SPDX-License-Identifier: GPL-2.0-only
 -- What each part of a valid script's lines has said.
 use Rattle.shr_script.proofs.Common.{◌≡◌, ℕ, suc, ◌+◌, Bool, true, false, List, [], ◌∷◌, ◌++◌, length, map, refl, sym, ap, subst, ◌∙◌, append_assoc, arith, flat_map, sum_by, append-nil, sum_by-cons, GroupDecl, CacheDecl, PoolDecl, Command, Word, Item, N, L, W, policy_place, flag_place, Header, Size, Group, Cache, Pool, Worker, State, start, Line, after, IsLine, Content, group_line, cache_line, pool_line, command_line, worker_command_lines, sweep_lines, end_line, lines_of, content_later, length-map}
 use Rattle.shr_base.specs.declared.scripts.Command.TheVariants as commands

@@ -1,3 +1,4 @@
+-- SPDX-License-Identifier: GPL-2.0-only
 -- Scripts that are read are spelled so, scripts that are spelled are read, and a fault is that of
 -- the first bad line.
 use Rattle.shr_script.proofs.Common.{◌≡◌, ℕ, suc, ◌+◌, Bool, true, false, cond, List, [], ◌∷◌, ◌++◌, length, Option, Some, None, Result, Ok, Err, refl, sym, ap, subst, ◌∙◌, append_assoc, arith, inl, inr, ◌⊎◌, bytes_eq, append-nil, bytes_eq-Decides, Code, Word, words_of, and_true, bind_ok, ok_is, Kind, Phase, Start, Sizes, Groups, Caches, Pools, Workers, Swept, Done, State, start, Line, first_word, misplaced, unless, allowed, classes, after, as_header, IsLine, is_end_read, IsScript, part_verdict, is_last, IsFault, Fault, ◌>>>◌, at_line, behind, lines_read, zero-add, list_all, cut_first, joined_cut, pieces_parts, pieces_joined, words_clean, line_parts, no_feed}

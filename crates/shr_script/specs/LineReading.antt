@@ -1,3 +1,4 @@
+-- SPDX-License-Identifier: GPL-2.0-only
 -- A line by its words: its kind, and what it says.
 use Rattle.std.specs.Prelude.{ℕ, true, false, if◌then◌else◌, List, bytes_eq, codes, Option, Some, None, option_map, Result, Ok, Err}
 use Rattle.shr_base.specs.declared.scripts.Act.TheVariants.{Get, Del, SetPin}

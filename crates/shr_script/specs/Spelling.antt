@@ -1,3 +1,4 @@
+-- SPDX-License-Identifier: GPL-2.0-only
 -- Bytes that spell a content.
 use Rattle.std.specs.Prelude.{◌≡◌, ℕ, List}
 use Rattle.shr_script.specs.Content.{Content, spell, IsValid}

@@ -1,3 +1,4 @@
+// SPDX-License-Identifier: GPL-2.0-only
 //! The command that a line says behind its first word.
 
 ghost use Rattle.shr_words.specs.WordReading.{words_left};
@@ -16,7 +17,7 @@ use shr_base::scripts::{Act, Command};
 use shr_base::text::Text;
 use std::alloc::Global;
 
-/// Of `put`. Our own.
+/// Of `put`.
 #[tactic(auto, unfolding(crate::specs::Drafted::command_said))]
 #[inline(always)]
 pub fn put_command(alloc: Global, said: &Said, rest: Option<&[u8]>) -> Result<Command, Stopped>
@@ -104,7 +105,7 @@ fn grab_command(said: &Said, rest: Option<&[u8]>) -> Result<Command, Stopped>
     Ok(Command::Grab { node, pool })
 }
 
-/// The command that the words behind its verb say. Our own.
+/// The command that the words behind its verb say.
 #[tactic(auto, unfolding(crate::specs::Drafted::command_said))]
 pub fn command_in(
     alloc: Global,

@@ -1,10 +1,10 @@
+// SPDX-License-Identifier: GPL-2.0-only
 //! What the lines make of a script.
 
 use shr_base::log::Log;
 use shr_base::scripts::{CacheDecl, Command, GroupDecl, PoolDecl, Sweep, WorkerScript};
 
 /// The declarations, the workers that are complete, the commands of the last one, and the sweep.
-/// Our own.
 #[derive(Drop)]
 pub struct Draft {
     pub groups: Log<GroupDecl>,

@@ -1,3 +1,4 @@
+// SPDX-License-Identifier: GPL-2.0-only
 //! The kinds of lines, and which may stand where.
 
 ghost use Rattle.std.specs.Prelude.{◌≡◌};
@@ -7,7 +8,7 @@ ghost use Rattle.shr_script.specs.Lines.{before_workers, among_workers, misplace
 
 use shr_base::scripts::{Act, Code};
 
-/// What a worker is told to do, by the first word of a command's line. Our own.
+/// What a worker is told to do, by the first word of a command's line.
 #[derive(Clone, Copy)]
 pub enum Verb {
     Put,
@@ -24,7 +25,7 @@ pub enum Verb {
     Grab,
 }
 
-/// What a line is, by its first word. `Work` is a command's. Our own.
+/// What a line is, by its first word. `Work` is a command's.
 #[derive(Clone, Copy)]
 pub enum Kind {
     Header,
@@ -39,7 +40,7 @@ pub enum Kind {
     End,
 }
 
-/// How far a script has come: which lines may follow. Our own.
+/// How far a script has come: which lines may follow.
 #[derive(Clone, Copy)]
 pub enum Phase {
     Start,
@@ -184,8 +185,7 @@ fn is_served(version: u8, kind: Kind) -> bool
     }
 }
 
-/// The kind that a first word names, where such a line may stand in a script of this version. Our
-/// own.
+/// The kind that a first word names, where such a line may stand in a script of this version.
 #[tactic(auto, unfolding(crate::specs::LineReading::kind_at))]
 pub fn kind_at(version: u8, phase: Phase, word: &[u8]) -> Result<Kind, Code>
     ensures { Gives (λ k. k) result (kind_at version phase word.now) }

@@ -1,4 +1,5 @@
-//! The grammar of scripts: reading one, with the line and the code of the first fault. Our own.
+// SPDX-License-Identifier: GPL-2.0-only
+//! The grammar of scripts: reading one, with the line and the code of the first fault.
 #![tactic(auto)]
 
 mod commands;

@@ -1,3 +1,4 @@
+// SPDX-License-Identifier: GPL-2.0-only
 //! A line behind its first word: what it says and adds.
 
 ghost use Rattle.std.specs.Prelude.{◌≡◌, ◌++◌, OnOk, IfSome, codes, true};
@@ -317,7 +318,7 @@ fn is_done(phase: Phase) -> bool
 }
 
 /// A part between line feeds, and whether the script is complete with it. The last part has no line
-/// feed. Our own.
+/// feed.
 #[tactic(auto, unfolding(crate::specs::Drafted::part_step))]
 pub fn part<'a>(
     alloc: Global,

@@ -1,3 +1,4 @@
+// SPDX-License-Identifier: GPL-2.0-only
 //! The lines of a script's bytes, one after the other.
 
 ghost use Rattle.std.specs.Prelude.{◌≡◌, ◌≤◌, length, option_map};
@@ -19,7 +20,7 @@ fn line_len(bytes: &[u8]) -> usize
     }
 }
 
-/// The next line, and what is left behind it: nothing, where no line feed ends the line. Our own.
+/// The next line, and what is left behind it: nothing, where no line feed ends the line.
 #[tactic(auto, unfolding(shr_model::specs::PieceParts::left), using(shr_model::proofs::PiecesLaws::next_more, shr_model::proofs::PiecesLaws::next_last))]
 pub fn next_line(rest: Option<&[u8]>) -> Option<(&[u8], Option<&[u8]>)>
     ensures { option_map (λ x. (x.0.now, left 10 (option_map (λ r. r.now) x.1))) result

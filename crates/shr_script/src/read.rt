@@ -1,3 +1,4 @@
+// SPDX-License-Identifier: GPL-2.0-only
 //! Reading a script.
 
 ghost use Rattle.std.specs.Prelude.{◌≡◌, ◌<◌, ◌^◌, ℕ, length, option_map, IfOk, IfErr};
@@ -20,7 +21,7 @@ use shr_base::scripts::{Code, Script};
 use std::alloc::Global;
 use thiserror::Error;
 
-/// Why a script could not be read. Our own.
+/// Why a script could not be read.
 #[derive(Clone, Copy, Debug, PartialEq, Eq, Error)]
 pub enum ReadError {
     /// The first bad line, counted from 1, and what is wrong with it.
@@ -94,7 +95,7 @@ fn run<'a>(alloc: Global, bytes: &'a [u8]) -> Result<(Said<'a>, Draft), ReadErro
     })
 }
 
-/// The script that the bytes spell, or the first bad line and what is wrong with it. Our own.
+/// The script that the bytes spell, or the first bad line and what is wrong with it.
 ///
 /// Only want of memory is answered otherwise. The bytes are gone over once, and names are looked up
 /// by their hash.

@@ -1,3 +1,4 @@
+// SPDX-License-Identifier: GPL-2.0-only
 //! A line's own rule.
 
 ghost use Rattle.std.specs.Prelude.{◌≡◌, ◌+◌, ◌≤◌, ◌<◌, nat_le, OnOk, None, length};
@@ -30,7 +31,7 @@ fn most_groups(version: u8) -> usize
     if version == 2 { 256 } else { 64 }
 }
 
-/// NoParent, Exists and TooMany of a group that is later or not, in this order. Our own.
+/// NoParent, Exists and TooMany of a group that is later or not, in this order.
 #[tactic(auto, unfolding(crate::specs::Lines::group_rule))]
 pub fn group_rule(said: &Said, later: bool, path: &[u8]) -> Result<(), Code>
     ensures reads { Gives (λ x. x) result (group_rule (said_state said.now) later path.now) }
@@ -50,7 +51,7 @@ pub fn group_rule(said: &Said, later: bool, path: &[u8]) -> Result<(), Code>
     Ok(())
 }
 
-/// Exists and TooMany of a cache, in this order. Our own.
+/// Exists and TooMany of a cache, in this order.
 #[tactic(auto, unfolding(crate::specs::Lines::cache_rule))]
 pub fn cache_rule(said: &Said, name: &[u8], on: bool) -> Result<(), Code>
     ensures absent { OnOk result (place_of name.now said.now.caches ≡ None) }
@@ -68,7 +69,7 @@ pub fn cache_rule(said: &Said, name: &[u8], on: bool) -> Result<(), Code>
     Ok(())
 }
 
-/// Exists and TooMany of a pool, in this order. Our own.
+/// Exists and TooMany of a pool, in this order.
 #[tactic(auto, unfolding(crate::specs::Lines::pool_rule))]
 pub fn pool_rule(said: &Said, name: &[u8]) -> Result<(), Code>
     ensures reads { Gives (λ x. x) result (pool_rule (said_state said.now) name.now) }
@@ -84,7 +85,7 @@ pub fn pool_rule(said: &Said, name: &[u8]) -> Result<(), Code>
     Ok(())
 }
 
-/// TooMany of a command. Our own.
+/// TooMany of a command.
 pub fn command_rule(said: &Said) -> Result<(), Code>
     ensures reads { Gives (λ x. x) result (refused_if (nat_le 20000 said.now.commands) TooMany) }
     ensures room { OnOk result (said.now.commands < 20000) }

@@ -1,3 +1,4 @@
+// SPDX-License-Identifier: GPL-2.0-only
 //! Why a line could not be read.
 
 ghost use Rattle.std.specs.Prelude.{◌≡◌};
@@ -6,7 +7,7 @@ ghost use Rattle.shr_script.specs.declared.stopped.Stopped.TheVariants.{Bad, Mem
 use shr_base::memory::Memory;
 use shr_base::scripts::Code;
 
-/// Why reading stopped at a line: the line is bad by this code, or there was no memory. Our own.
+/// Why reading stopped at a line: the line is bad by this code, or there was no memory.
 #[derive(Clone, Copy)]
 pub enum Stopped {
     Bad(Code),

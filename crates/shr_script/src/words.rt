@@ -1,3 +1,4 @@
+// SPDX-License-Identifier: GPL-2.0-only
 //! The words of a line behind the first, for each kind of line.
 
 ghost use Rattle.std.specs.Prelude.{◌≡◌, ◌<◌, ◌≤◌, [], ◌∷◌, Ok, IfOk, true};
@@ -18,7 +19,7 @@ use shr_words::word::{
     pool_kind, text, walk_kind,
 };
 
-/// Of `shrinkers`. Our own.
+/// Of `shrinkers`.
 pub fn version_word(said: &Said, rest: Option<&[u8]>) -> Result<u8, Code>
     ensures { Gives (λ x. N x ∷ []) result (items_said (classes (said_state said.now) Header)
         (words_left rest.entry)) }
@@ -36,7 +37,7 @@ fn most_ids(version: u8) -> u32
     if version == 2 { 256 } else { 64 }
 }
 
-/// Of `size`. Our own.
+/// Of `size`.
 pub fn size_words(said: &Said, rest: Option<&[u8]>) -> Result<(u8, u16), Code>
     ensures { Gives (λ x. N x.0 ∷ N x.1 ∷ []) result
         (items_said (classes (said_state said.now) Size) (words_left rest.entry)) }
@@ -47,7 +48,7 @@ pub fn size_words(said: &Said, rest: Option<&[u8]>) -> Result<(u8, u16), Code>
     Ok((nodes as u8, ids as u16))
 }
 
-/// Of `group` and `later`. Our own.
+/// Of `group` and `later`.
 pub fn group_words<'a>(
     said: &Said,
     later: bool,
@@ -63,7 +64,7 @@ pub fn group_words<'a>(
     Ok((path, limit))
 }
 
-/// Of `cache`. Our own.
+/// Of `cache`.
 pub fn cache_words<'a>(
     said: &Said,
     rest: Option<&'a [u8]>,
@@ -83,7 +84,7 @@ pub fn cache_words<'a>(
     Ok((name, policy, seeks, batch, floor, fs, on))
 }
 
-/// Of `pool`. Our own.
+/// Of `pool`.
 pub fn pool_words<'a>(
     said: &Said,
     rest: Option<&'a [u8]>,
@@ -100,7 +101,7 @@ pub fn pool_words<'a>(
     Ok((name, seeks, batch, floor, flat))
 }
 
-/// Of `sweep`. Our own.
+/// Of `sweep`.
 pub fn sweep_words(said: &Said, rest: Option<&[u8]>) -> Result<(u8, bool), Code>
     ensures { Gives (λ x. N x.0 ∷ N (flag_place x.1) ∷ []) result
         (items_said (classes (said_state said.now) Sweep) (words_left rest.entry)) }
@@ -125,7 +126,7 @@ fn target_of(group: u16, node: u32, cache: u16) -> Target
     }
 }
 
-/// Of `put`. Our own.
+/// Of `put`.
 #[inline(always)]
 pub fn put_words<'a>(
     said: &Said,
@@ -143,7 +144,7 @@ pub fn put_words<'a>(
     Ok((target_of(group, node, cache), key, value))
 }
 
-/// Of `get`, `del`, `pin` and `unpin`. Our own.
+/// Of `get`, `del`, `pin` and `unpin`.
 pub fn key_words<'a>(said: &Said, rest: Option<&'a [u8]>) -> Result<(Target, &'a [u8]), Code>
     ensures { Gives (λ x. N x.0.group ∷ N x.0.node ∷ N x.0.decl ∷ W x.1.now ∷ []) result
         (items_said (key_classes (said_state said.now)) (words_left rest.entry)) }
@@ -156,7 +157,7 @@ pub fn key_words<'a>(said: &Said, rest: Option<&'a [u8]>) -> Result<(Target, &'a
     Ok((target_of(group, node, cache), key))
 }
 
-/// Of `shrink`. Our own.
+/// Of `shrink`.
 pub fn shrink_words(said: &Said, rest: Option<&[u8]>) -> Result<(u16, u8, u8, bool), Code>
     ensures { Gives (λ x. N x.0 ∷ N x.1 ∷ N x.2 ∷ N (flag_place x.3) ∷ []) result
         (items_said (verb_classes (said_state said.now) Shrink) (words_left rest.entry)) }
@@ -169,7 +170,7 @@ pub fn shrink_words(said: &Said, rest: Option<&[u8]>) -> Result<(u16, u8, u8, bo
     Ok((group, node as u8, priority as u8, nofs))
 }
 
-/// Of `balance`. Our own.
+/// Of `balance`.
 pub fn balance_words(said: &Said, rest: Option<&[u8]>) -> Result<(u8, u8, bool), Code>
     ensures { Gives (λ x. N x.0 ∷ N x.1 ∷ N (flag_place x.2) ∷ []) result
         (items_said (verb_classes (said_state said.now) Balance) (words_left rest.entry)) }
@@ -181,7 +182,7 @@ pub fn balance_words(said: &Said, rest: Option<&[u8]>) -> Result<(u8, u8, bool),
     Ok((node as u8, priority as u8, nofs))
 }
 
-/// Of `offline`. Our own.
+/// Of `offline`.
 pub fn group_word(said: &Said, rest: Option<&[u8]>) -> Result<u16, Code>
     ensures { Gives (λ x. N x ∷ []) result (items_said (verb_classes (said_state said.now) Offline)
         (words_left rest.entry)) }
@@ -191,7 +192,7 @@ pub fn group_word(said: &Said, rest: Option<&[u8]>) -> Result<u16, Code>
     Ok(group)
 }
 
-/// Of `mkgroup`. Our own.
+/// Of `mkgroup`.
 pub fn later_group_word(said: &Said, rest: Option<&[u8]>) -> Result<u16, Code>
     ensures { Gives (λ x. N x ∷ []) result (items_said (verb_classes (said_state said.now) MkGroup)
         (words_left rest.entry)) }
@@ -201,7 +202,7 @@ pub fn later_group_word(said: &Said, rest: Option<&[u8]>) -> Result<u16, Code>
     Ok(group)
 }
 
-/// Of `isolate`. Our own.
+/// Of `isolate`.
 pub fn isolate_words(said: &Said, rest: Option<&[u8]>) -> Result<(Target, u32), Code>
     ensures { Gives (λ x. N x.0.group ∷ N x.0.node ∷ N x.0.decl ∷ N x.1 ∷ []) result
         (items_said (verb_classes (said_state said.now) Isolate) (words_left rest.entry)) }
@@ -214,7 +215,7 @@ pub fn isolate_words(said: &Said, rest: Option<&[u8]>) -> Result<(Target, u32), 
     Ok((target_of(group, node, cache), budget))
 }
 
-/// Of `release`. Our own.
+/// Of `release`.
 pub fn release_words(said: &Said, rest: Option<&[u8]>) -> Result<(u8, u8, u32), Code>
     ensures { Gives (λ x. N x.0 ∷ N x.1 ∷ N x.2 ∷ []) result
         (items_said (verb_classes (said_state said.now) Release) (words_left rest.entry)) }
@@ -226,7 +227,7 @@ pub fn release_words(said: &Said, rest: Option<&[u8]>) -> Result<(u8, u8, u32), 
     Ok((node as u8, pool as u8, units))
 }
 
-/// Of `grab`. Our own.
+/// Of `grab`.
 pub fn grab_words(said: &Said, rest: Option<&[u8]>) -> Result<(u8, u8), Code>
     ensures { Gives (λ x. N x.0 ∷ N x.1 ∷ []) result (items_said (verb_classes (said_state said.now)
         Grab) (words_left rest.entry)) }
@@ -237,7 +238,7 @@ pub fn grab_words(said: &Said, rest: Option<&[u8]>) -> Result<(u8, u8), Code>
     Ok((node as u8, pool as u8))
 }
 
-/// Of `register` and `unregister`. Our own.
+/// Of `register` and `unregister`.
 pub fn cache_word(said: &Said, rest: Option<&[u8]>) -> Result<u8, Code>
     ensures { Gives (λ x. N x ∷ []) result (items_said (verb_classes (said_state said.now) Register)
         (words_left rest.entry)) }

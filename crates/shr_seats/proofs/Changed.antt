@@ -1,3 +1,4 @@
+-- SPDX-License-Identifier: GPL-2.0-only
 -- A part of the views, when one view changes.
 use Rattle.shr_seats.proofs.Common.{◌≡◌, ℕ, List, [], ◌∷◌, ◌++◌, map, set, sym, ap, subst, ◌∙◌, some, get_elem?, at_map, map-set, map-append, set_again}
 

@@ -1,3 +1,4 @@
+-- SPDX-License-Identifier: GPL-2.0-only
 -- Shapes that tables may be made in and shapes that they may not, and seats of a table, at known values.
 use Rattle.shr_seats.proofs.Common.{◌≡◌, ℕ, zero, suc, ◌<◌, ◌≤◌, true, false, List, [], ◌∷◌, refl, arith, ◌+◌, count_by, Standing, AreSeats, IsWhole, is_out, at_first, at_split, with_split, with_join, Some, None}
 use Rattle.shr_base.specs.Kept.{Kept}

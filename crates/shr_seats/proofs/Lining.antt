@@ -1,3 +1,4 @@
+-- SPDX-License-Identifier: GPL-2.0-only
 -- The line of all deeds while seats do more, are split and are joined.
 use Rattle.shr_seats.proofs.Common.{◌≡◌, ℕ, zero, suc, ◌+◌, ◌<◌, ◌≤◌, ◌≢◌, Bool, true, false, cond, List, [], ◌∷◌, ◌++◌, map, length, set, sym, refl, ap, subst, ◌∙◌, arith, eq-eqb, ne_eqb, append-nil, dite, ℕ_discrete, some, some-injective, some-ne-none, get_elem?, set_else, Standing, IsWhole, AreSeats, AreEmptied, total, eqb, dec_lt, at_longer}
 use Rattle.shr_seats.specs.Lines.{Deed, by_seat, acts_of, part, state_after, AreSo, did_at, IsHere, AreInLine}

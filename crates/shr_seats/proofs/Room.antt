@@ -1,3 +1,4 @@
+-- SPDX-License-Identifier: GPL-2.0-only
 -- One room under each step of one seat, on plain data, for any kind of entry.
 use Rattle.shr_seats.proofs.RoomsCommon.{◌≡◌, ℕ, ◌+◌, ◌*◌, ◌≢◌, ◌^◌, true, false, eqb, cond, List, [], ◌∷◌, ◌++◌, length, set, sym, refl, ap, subst, ◌∙◌, arith, length-append, append-nil, Option, some, get_elem?, Each, Begins, Each-set, Each-push, Each-none, RoomMade, RoomCount, RoomView, no_room, with_room_hand, with_room_given, with_room_stored, with_room_count, joined_room, Law, FitsCountWord, IsEntryMade, CountsPrefix, times_made, holds_it, IsRoomSeen, IsRoomSound, Bool, ltb, ⊎_elim, append_assoc, at_set, sum_by-changed, sum_by-joined, sum_by-more, term_le, terms_le, Each-weaker, Each-append, Each-cons, heard_of}
 use Rattle.std.proofs.lemmas.Bool.{cases_Bool}

@@ -1,3 +1,4 @@
+-- SPDX-License-Identifier: GPL-2.0-only
 -- What a table of rooms leaves once all other seats were joined into the first.
 use Rattle.shr_seats.proofs.RoomsCommon.{◌≡◌, ℕ, ◌<◌, true, false, cond, List, map, sym, refl, ap, subst, ◌∙◌, arith, some, get_elem?, State, at_map, Standing, RoomView, no_room, part_at, Law, AreRoomsSound, holds_it, times_made, IsWhole, sum_by-sole, sum_by-map}
 use Rattle.std.specs.Prelude.{sum_by}

@@ -1,3 +1,4 @@
+-- SPDX-License-Identifier: GPL-2.0-only
 -- A new table of rooms meets the rule.
 use Rattle.shr_seats.proofs.RoomsCommon.{◌≡◌, ℕ, ◌+◌, ◌*◌, ◌<◌, ◌≤◌, true, List, [], ◌∷◌, map, length, get_or, sym, ap, subst, ◌∙◌, arith, Option, some, get_elem?, State, at_map, Each, Standing, AreSeats, not_gone, Each-one, RoomView, no_room, part_at, Law, IsRoomSound, AreRoomsSound, IsRoomSeen, lock_index, count_index, replicate, length-replicate, get_or-replicate, opening, at_first, AreSeats-first}
 use Rattle.shr_seats.proofs.Room.{seen_none}

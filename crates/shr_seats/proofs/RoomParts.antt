@@ -1,3 +1,4 @@
+-- SPDX-License-Identifier: GPL-2.0-only
 -- The parts of a view: changing one of them, and joining those of another view.
 use Rattle.shr_seats.proofs.RoomsCommon.{◌≡◌, ◌≢◌, ℕ, zero, suc, List, [], ◌∷◌, map, refl, sym, ap, append-nil, RoomView, no_room, joined_room, part_at}
 use Rattle.shr_seats.specs.RoomViews.{with_part_at, joined_parts}

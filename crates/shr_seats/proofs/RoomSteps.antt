@@ -1,3 +1,4 @@
+-- SPDX-License-Identifier: GPL-2.0-only
 -- The steps on a table of rooms keep its rule.
 use Rattle.shr_seats.proofs.RoomsCommon.{◌≡◌, ℕ, ◌+◌, ◌*◌, ◌<◌, ◌≢◌, ◌^◌, true, false, eqb, cond, List, [], ◌∷◌, ◌++◌, map, length, set, get_or, sym, refl, ap, subst, ◌∙◌, arith, Option, some, get_elem?, State, at_map, Standing, AreSeats, Each-set, Each-push, not_gone, RoomView, with_room_hand, with_room_given, with_room_stored, with_room_count, joined_room, part_at, Law, FitsCountWord, IsRoomSound, AreRoomsSound, lock_index, count_index, IsTold, ◌%◌, ◌/◌, eq-eqb, ne_eqb, length-set, get_or-set_same, get_or-set_other, map-set, set-get_or, none, Me, Act, Valid, keeps, takes, gives, Allows, Splits, Joins, stepped, carried_after, set_again, set_else, set_here, exchanged, at_split, at_end, with_split, with_join, AreSeats-split, AreSeats-join, with_part_at, IsCount}
 use mathlib.Core.Logic.{dite}

@@ -1,3 +1,4 @@
+-- SPDX-License-Identifier: GPL-2.0-only
 -- What follows of a room from what a step told of it.
 use Rattle.shr_seats.proofs.RoomsCommon.{◌<◌, ◌≤◌, List, ◌∷◌, length, ap, arith, length-append, Begins, RoomMade, RoomCount, RoomView, Law, IsEntryMade, CountsPrefix, IsTold, IsRecent}
 use Rattle.shr_seats.proofs.Weighing.{Each-weaker}

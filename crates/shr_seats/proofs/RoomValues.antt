@@ -1,3 +1,4 @@
+-- SPDX-License-Identifier: GPL-2.0-only
 -- The rule of a room at known values: journals of numbers, each the number of entries before it.
 use Rattle.shr_seats.proofs.RoomsCommon.{◌≡◌, ℕ, ◌<◌, ◌≤◌, List, [], ◌∷◌, length, refl, arith, Each-none, Each-one, RoomMade, RoomCount, RoomView, no_room, with_room_count, joined_room, part_at, Law, FitsCountWord, IsEntryMade, CountsPrefix, times_made, lock_index, count_index, IsRecent, lit<, lit≤, IsJournal}
 use Rattle.shr_seats.specs.RoomViews.{with_known, with_entry, with_part_at, joined_parts}

@@ -1,3 +1,4 @@
+-- SPDX-License-Identifier: GPL-2.0-only
 -- Splitting the first seat and joining another into it keep the rule of seats, which tells what is
 -- left once all are joined.
 use Rattle.shr_seats.proofs.Common.{◌≡◌, ℕ, ◌+◌, ◌≢◌, Bool, true, false, cond, List, [], ◌∷◌, ◌++◌, map, length, set, sym, refl, ap, subst, ◌∙◌, ⊎_elim, arith, sum_by, count_by, some, some-ne-none, get_elem?, at_map, at_set, Each, Standing, at_first, at_split, with_split, with_join, is_out, IsWhole, AreSeats, AreEmptied, not, ◌&&◌, length-append, length-set, at_end}

@@ -1,3 +1,4 @@
+-- SPDX-License-Identifier: GPL-2.0-only
 -- Sums over lists of which one or two elements change, and what holds of each element of them.
 use Rattle.shr_seats.proofs.Common.{◌≡◌, ℕ, zero, suc, ◌+◌, ◌<◌, ◌≤◌, ◌≢◌, List, [], ◌∷◌, ◌++◌, map, set, sym, refl, ap, subst, ⊎_elim, ◌∙◌, arith, sum_by, some, some-injective, some-ne-none, get_elem?, at_set, at_snoc, set_else, Each}
 use Rattle.std.specs.List.{range_with_len}

@@ -1,3 +1,4 @@
+-- SPDX-License-Identifier: GPL-2.0-only
 -- What is left of a room once all other seats were joined into the first.
 use Rattle.std.specs.Prelude.{◌≡◌, ℕ, nat_lt, cond, List, length}
 use Rattle.shr_seats.specs.RoomViews.{RoomView}

@@ -1,3 +1,4 @@
+-- SPDX-License-Identifier: GPL-2.0-only
 -- The rule of one room, and of a table of rooms.
 use Rattle.std.specs.Prelude.{◌≡◌, ℕ, ◌+◌, ◌*◌, ◌<◌, ◌≤◌, ◌^◌, true, ◌==◌, nat_lt, cond, List, [], ◌∷◌, ◌++◌, map, length, slice_index, sum_by, count_by}
 use Rattle.atomic_table.specs.Table.{State}

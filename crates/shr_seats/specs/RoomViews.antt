@@ -1,3 +1,4 @@
+-- SPDX-License-Identifier: GPL-2.0-only
 -- What a seat did and saw in one room, and the steps on it.
 use Rattle.std.specs.Prelude.{ℕ, zero, suc, slice_index_or, Bool, true, false, List, [], ◌∷◌, ◌++◌, map, length}
 

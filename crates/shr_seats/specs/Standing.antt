@@ -1,3 +1,4 @@
+-- SPDX-License-Identifier: GPL-2.0-only
 -- The place of a seat among the seats of its table.
 use Rattle.std.specs.Prelude.{◌≡◌, ℕ, Bool, true, false, not, ◌&&◌, ◌+◌, List, length, count_by}
 use Rattle.atomic_table.specs.Seated.{TableId}

@@ -1,3 +1,4 @@
+// SPDX-License-Identifier: GPL-2.0-only
 //! The places of a table, and the row of each.
 
 ghost use Rattle.std.specs.Prelude.{◌≡◌, ◌<◌, ◌^◌};
@@ -5,7 +6,7 @@ ghost use Rattle.shr_seats.specs.Rows.{IsPlaceOf, row_count, row_of, place_of_ro
 
 use shr_base::places::Place;
 
-/// How many ids, nodes and groups a table has a place for. Our own.
+/// How many ids, nodes and groups a table has a place for.
 #[derive(Clone, Copy, Debug, PartialEq, Eq)]
 pub struct Sizes {
     pub ids: u16,
@@ -14,7 +15,7 @@ pub struct Sizes {
 }
 
 impl Sizes {
-    /// How many rows there are: one for each place. Our own.
+    /// How many rows there are: one for each place.
     pub fn rows(self) -> usize
         ensures rows { result ≡ row_count self }
         ensures small { result < 2 ^ 40 }
@@ -22,7 +23,7 @@ impl Sizes {
         self.ids as usize * self.nodes as usize * self.groups as usize
     }
 
-    /// The row of a place: by id, node and group. Our own.
+    /// The row of a place: by id, node and group.
     pub fn row(self, place: Place) -> usize
         requires { IsPlaceOf self place }
         ensures row { result ≡ row_of self place }
@@ -33,7 +34,7 @@ impl Sizes {
             + place.group as usize
     }
 
-    /// The place of a row. Our own.
+    /// The place of a row.
     pub fn place(self, row: usize) -> Place
         requires { (0 < self.nodes) × (0 < self.groups) × (row < row_count self) }
         ensures { result ≡ place_of_row self row }

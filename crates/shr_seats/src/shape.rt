@@ -1,3 +1,4 @@
+// SPDX-License-Identifier: GPL-2.0-only
 //! What the tables of a run are made in.
 
 ghost use Rattle.std.specs.Prelude.{◌≡◌, ◌<◌, ◌^◌, length};
@@ -30,7 +31,7 @@ pub struct Shape {
 }
 
 impl Shape {
-    /// The sizes of a table with a place for each id, node and group. Our own.
+    /// The sizes of a table with a place for each id, node and group.
     pub fn sizes(&self) -> Sizes
         requires { length self.now.parents.items < 2 ^ 16 }
         ensures { result ≡ sizes_of self.now }

@@ -1,3 +1,4 @@
+-- SPDX-License-Identifier: GPL-2.0-only
 -- Declarations registered one after another.
 use Rattle.shr_tables.proofs.Common.{◌≡◌, ℕ, zero, suc, ◌+◌, List, [], ◌++◌, Bool, true, false, sym, refl, ap, subst, ◌∙◌, arith, slice_get, Some, CacheDecl, View, opener, AreEntered, Enters, EntersIf, is_on}
 use Rattle.shr_core.specs.Parts.{Tried}

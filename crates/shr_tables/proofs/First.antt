@@ -1,3 +1,4 @@
+-- SPDX-License-Identifier: GPL-2.0-only
 -- Nothing stands in the way of the first registrations: none is live, and an id is free.
 use Rattle.shr_tables.proofs.Common.{◌≡◌, ℕ, zero, suc, ◌+◌, ◌<◌, Bool, true, false, List, [], ◌∷◌, ◌++◌, length, get_or, take, sym, refl, ap, subst, ◌∙◌, arith, Some, nat_tests, CacheDecl, View, HasEntered, ◌≤◌, ◌%◌, cond, nat_lt, drop, length-append, ◌==◌, ◌&&◌, if◌then◌else◌, Option, None, AreBefore}
 use Rattle.std.specs.List.{count_by}

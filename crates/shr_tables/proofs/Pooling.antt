@@ -1,3 +1,4 @@
+-- SPDX-License-Identifier: GPL-2.0-only
 -- The pools of a valid script.
 use Rattle.std.specs.Prelude.{All, List, [], ◌∷◌}
 use Rattle.std.specs.List.{AllByRecursion}

@@ -1,3 +1,4 @@
+-- SPDX-License-Identifier: GPL-2.0-only
 -- The first seats, at their tables and by themselves.
 use Rattle.std.specs.Prelude.{◌≡◌}
 use Rattle.shr_core.specs.declared.table.Core.{Core}

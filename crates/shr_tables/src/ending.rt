@@ -1,3 +1,4 @@
+// SPDX-License-Identifier: GPL-2.0-only
 //! What is left of the tables once all workers are done.
 
 ghost use Rattle.std.specs.Prelude.{◌≡◌, ◌<◌, ◌^◌, All, IfOk};
@@ -25,7 +26,7 @@ use shr_plain::ending::PoolsEnd;
 use shr_walk::seats::{FirstSeats, Shared};
 use std::alloc::Global;
 
-/// What is left of a run: the script that was run, and the end of each table. Our own.
+/// What is left of a run: the script that was run, and the end of each table.
 #[derive(Drop)]
 pub struct Ends {
     pub script: Script,
@@ -36,7 +37,7 @@ pub struct Ends {
 }
 
 /// Ends all tables once all other seats were joined into the first ones. `Memory` comes for want of
-/// memory. Our own.
+/// memory.
 pub fn finish(alloc: Global, tables: Tables, first: FirstCrew) -> Result<Ends, Memory>
     requires first { AreFirstIn (held_in tables) first }
     requires core { IsWhole (first_view first.seats.core).standing }

@@ -1,3 +1,4 @@
+// SPDX-License-Identifier: GPL-2.0-only
 //! Seats for the workers, and their joining.
 
 ghost use Rattle.std.specs.Prelude.{◌≡◌, ◌<◌, IfOk};
@@ -17,7 +18,7 @@ use shr_walk::seats::{CacheSeat, Seats};
 use std::alloc::Global;
 
 /// What a worker noted: its walks, its carries, its operations on charges, and its walks of the
-/// pools. Our own.
+/// pools.
 #[derive(Drop)]
 pub struct Notes {
     pub walks: Log<WalkRecord>,
@@ -28,7 +29,7 @@ pub struct Notes {
 
 impl<'a> CrewSeats<'a> {
     /// Seats of all tables for one worker more, split off the first ones. `Memory` comes for want
-    /// of memory. Our own.
+    /// of memory.
     pub fn split(&mut self, alloc: Global) -> Result<CrewSeats<'a>, Memory>
         requires first { AreFirst self.old }
         requires few_cores { (view_of self.old.seats.cache.core).standing.splits < 64 }
@@ -53,7 +54,7 @@ impl<'a> CrewSeats<'a> {
         Ok(CrewSeats { seats, plain })
     }
 
-    /// Joins a worker's seats into the first ones, and gives what the worker noted. Our own.
+    /// Joins a worker's seats into the first ones, and gives what the worker noted.
     pub fn join(&mut self, other: CrewSeats<'a>) -> Notes
         requires first { AreFirst self.old }
         requires tables { held_by other ≡ held_by self.old }

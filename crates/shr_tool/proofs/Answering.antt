@@ -1,3 +1,4 @@
+-- SPDX-License-Identifier: GPL-2.0-only
 -- What an input is answered, by the script or the fault that was read.
 use Rattle.shr_tool.proofs.Common.{◌≡◌, ℕ, List, sym, subst, Option, Code, IsFault, SourceSeen, SinkSeen, RunGives, Status, Done, Usage, ReadFault, WriteFault, Refused, Memory, TooLong, Unlawful, refusal_text, refusal, AnswerGives, RefusalGives, TracedGives, TracedAnswer}
 use Rattle.shr_tool.specs.Done.{ReadAll, script_limit}

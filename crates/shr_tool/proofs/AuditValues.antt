@@ -1,3 +1,4 @@
+-- SPDX-License-Identifier: GPL-2.0-only
 -- Where a script ends, at known bytes.
 use Rattle.shr_tool.proofs.Common.{◌≡◌, inl, inr, [], ◌∷◌, refl, codes, IsOtherLine, AreOtherLines, IsSplit}
 use Rattle.shr_tool.proofs.OneSplit.{one_split}

@@ -1,3 +1,4 @@
+-- SPDX-License-Identifier: GPL-2.0-only
 -- Where nothing fails, a valid script is run and any other is refused.
 use Rattle.shr_tool.proofs.Common.{◌≡◌, ℕ, ◌≤◌, inl, inr, List, ◌++◌, length, Option, Some, None, refl, sym, ap, ◌∙◌, length-append, arith, append-nil, Consumes, Code, content_of, spell, IsFault, SourceSeen, SinkSeen, RunGives, Status, Done, Usage, ReadFault, WriteFault, Refused, Memory, TooLong, Unlawful, IsAtEnd, Content, IsValid, IsComplete, IsRefusing}
 use Rattle.shr_script.proofs.ReadLaws.{faultless}

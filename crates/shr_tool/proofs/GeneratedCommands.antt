@@ -1,3 +1,4 @@
+-- SPDX-License-Identifier: GPL-2.0-only
 -- The commands of a generated script, and how many they are.
 use Rattle.shr_tool.proofs.Common.{◌≡◌, ℕ, zero, suc, ◌+◌, ◌*◌, ◌<◌, ◌^◌, ◌-◌, Bool, true, false, List, [], ◌∷◌, ◌++◌, length, map, refl, sym, ap, ◌∙◌, arith, slice_get, sum_by, Option, Some, None, codes, same_Some, Command, Put, Unregister, Script, content_of, generated, is_offline, commands_of, ◌%◌, ◌==◌, eqb, eq-eqb, nat_lt, if◌then◌else◌, slice_index_or, decimal, option_and_then, range_with_len, none-some, Target, On, Get, Shrink, Balance, Offline, commands_from, generated_command, node_by, target_by, priority_by, key_text, value_text, worker_group, group_at, drawn_after, chosen_by, answers_in, commands_in, later_of, limit_of}
 use Rattle.std.proofs.lemmas.Bool.{and_parts, and_from, eqb-true}

@@ -1,3 +1,4 @@
+-- SPDX-License-Identifier: GPL-2.0-only
 -- Each put of a generated script is added, where there is memory and no counter is used up.
 use Rattle.shr_tool.proofs.Common.{◌≡◌, ℕ, zero, suc, ◌+◌, ◌*◌, ◌<◌, ◌≤◌, ◌^◌, inl, inr, cond, List, [], ◌∷◌, length, refl, sym, ap, ◌∙◌, subst, arith, slice_get, Option, Some, None, same_Some, Target, Command, Put, Unregister, Script, content_of, generated, is_offline, commands_of, ⊎_elim, option_map, filter_map, Contains, enumerate_from, slice_get_within, MayBeGenerated, parents_of, decls_on, answers_of, answer_at, journals_of, id_found}
 use Rattle.std.specs.Option.{IsSomeAnd}

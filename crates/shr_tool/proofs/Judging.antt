@@ -1,3 +1,4 @@
+-- SPDX-License-Identifier: GPL-2.0-only
 -- What is told of an input is its verdict, where nothing fails.
 use Rattle.shr_tool.proofs.Common.{◌≡◌, ◌∙◌, ℕ, ◌⊎◌, inl, inr, List, refl, sym, ap, subst, arith, SourceSeen, SinkSeen, Status, IsVerdictOf, status_of, IsBad, JudgeGives, IsJudged, AuditGives, HasVerdict, IsInputWhole, IsJudging}
 use Rattle.shr_outside.specs.Outside.{Rose}

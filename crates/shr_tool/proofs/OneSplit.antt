@@ -1,3 +1,4 @@
+-- SPDX-License-Identifier: GPL-2.0-only
 -- Bytes are split in one way.
 use Rattle.shr_tool.proofs.Common.{◌≡◌, ◌∙◌, ℕ, ◌⊎◌, inl, inr, true, false, List, [], ◌∷◌, ◌++◌, refl, sym, ap, ap₂, append_assoc, codes, AllByRecursion, append-nil, list_all-append, differs, is_part_of, IsOtherLine, IsSplit, with_feeds, Parts, cut, HasEndLine, HasNoEnd}
 use Rattle.shr_model.proofs.PiecesLaws.{and_true, cut_first}

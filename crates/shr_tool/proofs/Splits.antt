@@ -1,3 +1,4 @@
+-- SPDX-License-Identifier: GPL-2.0-only
 -- A script and what stands behind it, found line by line.
 use Rattle.shr_tool.proofs.Common.{◌≡◌, ◌∙◌, ℕ, ◌+◌, ◌-◌, ◌≤◌, ◌<◌, inl, inr, true, false, cond, List, [], ◌∷◌, ◌++◌, length, take, get_or, refl, sym, ap, ap₂, subst, append_assoc, codes, arith, AllByRecursion, append-nil, list_all-append, differs, is_part_of, IsOtherLine, AreOtherLines, IsSplit, with_feeds, ◌≢◌, ◌&&◌, drop, ne_eqb, length-drop, take_more, get_or-drop, take-append-drop, drop_all}
 use Rattle.std.proofs.Math.Seq.{take-add}

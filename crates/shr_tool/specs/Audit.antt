@@ -1,3 +1,4 @@
+-- SPDX-License-Identifier: GPL-2.0-only
 -- What the word `audit` gives: a report is judged by the script that stands before it.
 use Rattle.std.specs.Prelude.{◌≡◌, ◌≢◌, ◌⊎◌, ℕ, ◌≤◌, true, List, ◌++◌, codes, decimal, length, flat_map, Some}
 use Rattle.std.specs.List.{AllByRecursion}

@@ -1,3 +1,4 @@
+-- SPDX-License-Identifier: GPL-2.0-only
 pub mod Reading
 pub mod Top
 pub mod Done

@@ -1,3 +1,4 @@
+-- SPDX-License-Identifier: GPL-2.0-only
 -- The five lines that are written of the run of a generated script, and what they say.
 use Rattle.std.specs.Prelude.{◌≡◌, ℕ, ◌+◌, ◌*◌, List, ◌++◌, codes, decimal, length, sum_by, slice_get, Some}
 use Rattle.std.specs.Io.KnownBytes.{Appends}

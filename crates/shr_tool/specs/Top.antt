@@ -1,3 +1,4 @@
+-- SPDX-License-Identifier: GPL-2.0-only
 -- What each status says, and its cause.
 use Rattle.std.specs.Prelude.{◌≡◌, ℕ, ◌≤◌, ◌⊎◌, List, ◌++◌, codes, length, decimal, Option, Some}
 use Rattle.std.specs.Io.KnownBytes.{Appends}

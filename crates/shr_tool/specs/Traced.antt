@@ -1,3 +1,4 @@
+-- SPDX-License-Identifier: GPL-2.0-only
 -- Where the report of a run comes from: the tables that were opened for its script.
 use Rattle.std.specs.Prelude.{ℕ, List}
 use Rattle.shr_run.specs.Made.{IsReportOfRun}

@@ -1,3 +1,4 @@
+-- SPDX-License-Identifier: GPL-2.0-only
 -- How often the source gives bytes in a call, by its words.
 use Rattle.std.specs.Prelude.{◌≡◌, ℕ, ◌+◌, ◌≤◌, List}
 use Rattle.shr_gen.specs.Forms.{AreRunWords, AreAuditWords, AreGenWords, AreNoForm}

@@ -1,3 +1,4 @@
+// SPDX-License-Identifier: GPL-2.0-only
 //! Judging a report by the script that stands before it.
 
 ghost use Rattle.std.specs.Prelude.{◌≡◌, ◌≤◌, ◌+◌, IfOk, length, take, drop};
@@ -89,7 +90,7 @@ fn judge<K: Sink>(alloc: Global, bytes: &[u8], sink: &mut K) -> Status
 }
 
 /// Reads a script and the report behind it to their end, judges the report, and tells the verdict. It
-/// starts no thread and waits for nothing. Our own.
+/// starts no thread and waits for nothing.
 pub fn read_and_judge<S: Source, K: Sink>(alloc: Global, source: &mut S, sink: &mut K) -> Status
     ensures audited { AuditGives
         (source_seen S.left S.faults source.old source.new)

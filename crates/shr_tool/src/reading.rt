@@ -1,3 +1,4 @@
+// SPDX-License-Identifier: GPL-2.0-only
 //! Reading a source to its end.
 
 ghost use Rattle.std.specs.Prelude.{◌≡◌, ◌≤◌, ◌+◌, ◌++◌, OnOk};
@@ -6,17 +7,17 @@ ghost use Rattle.shr_tool.specs.Reading.{ReadsInput};
 use shr_outside::outside::{Source, Took};
 use std::alloc::{AllocError, Global};
 
-/// The most bytes of a script. Our own.
+/// The most bytes of a script.
 pub(crate) const SCRIPT_LIMIT: usize = 4_194_304;
 
-/// The most bytes of a script with a report behind it. Our own.
+/// The most bytes of a script with a report behind it.
 pub(crate) const AUDIT_LIMIT: usize = 67_108_864;
 
 // The most bytes that are copied at once: pieces of some 4 KB and more the C library copies by one
 // instruction that is counted once a byte.
 const PIECE: usize = 2048;
 
-/// What reading a source gave. Our own.
+/// What reading a source gave.
 #[derive(Drop)]
 pub enum Input {
     /// All the bytes, which are within the limit.
@@ -42,7 +43,7 @@ fn append(bytes: &mut Vec<u8>, more: &[u8]) -> Result<(), AllocError>
     bytes.extend_from_slice(left)
 }
 
-/// All the bytes that are left, where there are no more than the limit. Our own.
+/// All the bytes that are left, where there are no more than the limit.
 pub fn read_all<S: Source>(alloc: Global, source: &mut S, limit: usize) -> Input
     ensures input { ReadsInput limit (S.left source.old) (S.left source.new) (S.faults source.old)
         (S.faults source.new) result }

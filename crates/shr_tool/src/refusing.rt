@@ -1,3 +1,4 @@
+// SPDX-License-Identifier: GPL-2.0-only
 //! The text of a refusal.
 
 ghost use Rattle.std.specs.Prelude.{◌≡◌, IfOk};
@@ -29,7 +30,7 @@ fn name_of(code: Code) -> &'static [u8]
     }
 }
 
-/// The line that says at which line of a script it is refused, and why. Our own.
+/// The line that says at which line of a script it is refused, and why.
 pub fn refusal(alloc: Global, line: u32, code: Code) -> Result<Vec<u8>, Memory>
     ensures { IfOk result (λ text. text.items ≡ refusal line code) }
 {

@@ -1,9 +1,10 @@
-//! How a call of the whole program ends. Our own.
+// SPDX-License-Identifier: GPL-2.0-only
+//! How a call of the whole program ends.
 
 ghost use Rattle.std.specs.Prelude.{◌≡◌};
 ghost use Rattle.shr_tool.specs.Statuses.{status_number};
 
-/// How a call of `top` ended. The number beside each is the program's exit status. Our own.
+/// How a call of `top` ended. The number beside each is the program's exit status.
 #[derive(Clone, Copy, Debug, PartialEq, Eq)]
 pub enum Status {
     /// 0: the job was done and all of its text was written.
@@ -26,7 +27,7 @@ pub enum Status {
 }
 
 impl Status {
-    /// The number that the program ends with. 1 is left to the shell and the kit. Our own.
+    /// The number that the program ends with. 1 is left to the shell and the kit.
     pub fn number(self) -> u8
         ensures { result ≡ status_number self }
     {

@@ -1,3 +1,4 @@
+// SPDX-License-Identifier: GPL-2.0-only
 //! The run of a generated script, and the five lines that are written of it.
 
 ghost use Rattle.shr_tool.specs.Top.{sink_seen};
@@ -19,7 +20,7 @@ use std::alloc::Global;
 use std::sync::Wait;
 use std::thread::Threads;
 
-/// The numbers that a script is made by. Our own.
+/// The numbers that a script is made by.
 #[derive(Clone, Copy, Debug, PartialEq, Eq)]
 pub struct Numbers {
     pub seed: u64,
@@ -69,7 +70,7 @@ fn five_lines(alloc: Global, numbers: Numbers, report: &Report) -> Result<Vec<u8
 }
 
 /// Makes the script of these numbers, runs it, its workers on threads, and writes five lines of its
-/// report. It waits as the workers do. Our own.
+/// report. It waits as the workers do.
 pub fn run_generated<R: Threads + Wait + Sync, K: Sink, G: Gate + Sync>(
     rt: &R,
     alloc: Global,

@@ -1,3 +1,4 @@
+// SPDX-License-Identifier: GPL-2.0-only
 //! All that the program does.
 
 ghost use Rattle.std.specs.Prelude.{◌≤◌, ◌+◌, ℕ, map, string_bytes};
@@ -143,7 +144,7 @@ fn read_and_answer<R: Threads + Wait + Sync, S: Source, K: Sink, G: Gate + Sync>
 /// Each status says what was read and written, and why it came; with words of a form want of memory
 /// may come at any time. After a call that failed the same source and sink may be used for a new
 /// run. `afterwards` says what becomes of the memory of a report that was written; all else is given
-/// back. It waits as the workers do. Our own.
+/// back. It waits as the workers do.
 pub fn top<R: Threads + Wait + Sync, S: Source, K: Sink, G: Gate + Sync>(
     rt: &R,
     alloc: Global,

@@ -1,3 +1,4 @@
+// SPDX-License-Identifier: GPL-2.0-only
 //! Reports that are judged by the script before them, over ends that fail at each of their calls in turn.
 
 use crate::failures::{SCRIPT, TEXT};

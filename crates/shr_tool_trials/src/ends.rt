@@ -1,3 +1,4 @@
+// SPDX-License-Identifier: GPL-2.0-only
 //! The real source and sink, and those in memory, at known values.
 
 use shr_outside::outside::{Gave, Sink, Source, Took};

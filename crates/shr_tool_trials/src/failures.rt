@@ -1,3 +1,4 @@
+// SPDX-License-Identifier: GPL-2.0-only
 //! Ends that fail at each of their calls in turn.
 
 use crate::gates::Open;
@@ -12,11 +13,11 @@ use std::sync::Wait;
 use std::test::Fail;
 use std::thread::Threads;
 
-/// A script of ten pieces of ten bytes, and its report of 27. Our own.
+/// A script of ten pieces of ten bytes, and its report of 27.
 pub(crate) const SCRIPT: &str =
     "shrinkers 1\nsize 1 1\ngroup /a max\ncache dentry plain 2 0 0 any on\nworker\nput /a 0 dentry k1 =v1\nend\n";
 
-/// The report of the script. Our own.
+/// The report of the script.
 pub(crate) const TEXT: &str =
     "report 1\nsize 1 1\ngroup 0 /\ngroup 1 /a\ncache 0 dentry\npool 0 registered 0 0 0\nreply 0 0 added 0 0 1 0\nfind 0 0 1\nlist 0 0 1\nadd 0 0 1 k1 =v1 added\nitem 0 0 1 k1 =v1 clean loose\nbit 0 1 0000000000000001\nuse 0 0 + 0 0 0\nuse 1 0 + 0 0 0\nlookups 0 1\ntotal 1 0 1 1 0\nend\n";
 

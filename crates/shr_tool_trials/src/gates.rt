@@ -1,16 +1,17 @@
+// SPDX-License-Identifier: GPL-2.0-only
 //! Gates: an open one, one that counts, and one at which two workers meet.
 
 use crossbeam_utils::atomic::AtomicCell;
 use shr_outside::outside::Gate;
 
-/// A gate that lets each command through. Our own.
+/// A gate that lets each command through.
 pub(crate) struct Open;
 
 impl Gate for Open {
     fn before(&self, _worker: u16, _command: u32) {}
 }
 
-/// A gate that counts its calls and adds up their numbers. Our own.
+/// A gate that counts its calls and adds up their numbers.
 #[derive(Drop)]
 pub(crate) struct Counting {
     calls: AtomicCell<u64>,
@@ -18,7 +19,7 @@ pub(crate) struct Counting {
 }
 
 impl Counting {
-    /// No call yet. Our own.
+    /// No call yet.
     pub(crate) fn new() -> Counting {
         Counting {
             calls: AtomicCell::new(0),
@@ -26,7 +27,7 @@ impl Counting {
         }
     }
 
-    /// How often it was called, and the sum of the numbers. Our own.
+    /// How often it was called, and the sum of the numbers.
     pub(crate) fn seen(&self) -> (u64, u64) {
         (self.calls.load(), self.numbers.load())
     }

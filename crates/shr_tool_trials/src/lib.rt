@@ -1,3 +1,4 @@
+// SPDX-License-Identifier: GPL-2.0-only
 //! Ends, long scripts and long reports by calls, and whole runs of the program with gates and with ends that fail.
 #![tactic(auto)]
 

@@ -1,3 +1,4 @@
+// SPDX-License-Identifier: GPL-2.0-only
 //! A report that was printed on threads is the one that was printed alone: in several turns, in one, and where it is short.
 
 use shr_base::ends::{PlaceEnd, WorkerPart};

@@ -1,3 +1,4 @@
+// SPDX-License-Identifier: GPL-2.0-only
 //! Long scripts whose workers are read on threads, and the fault of one.
 
 use shr_base::scripts::{Code, Script};

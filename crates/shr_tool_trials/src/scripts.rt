@@ -1,3 +1,4 @@
+// SPDX-License-Identifier: GPL-2.0-only
 //! The most commands that a script may have, and one more.
 
 use shr_base::scripts::Code;

@@ -1,3 +1,4 @@
+// SPDX-License-Identifier: GPL-2.0-only
 //! Scripts of known seeds, against numbers that another program made.
 
 use shr_base::places::Target;

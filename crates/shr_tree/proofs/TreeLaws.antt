@@ -1,3 +1,4 @@
+-- SPDX-License-Identifier: GPL-2.0-only
 -- What the parts of a tree tell of what is seen of it.
 use Rattle.shr_tree.proofs.Common.{◌≡◌, ◌++◌, ◌∷◌, [], ◌<◌, ℕ, Bool, true, false, List, length, map, get_or, set, sym, ap, subst, ◌∙◌, arith, length-map, get_or-map, map_push, is_later, parent_of, children_of, preorder_of, Word, Group, may_hold, IsTreeWhole, ◌≤◌, length_push, IsTree, IsHierarchy, Groups, hierarchy_in, groups_seen, IsSubtree}
 use Rattle.std.proofs.lemmas.List.FromFn.{length-map-range_with_len, get_or-map-range_with_len}

@@ -1,3 +1,4 @@
+-- SPDX-License-Identifier: GPL-2.0-only
 -- What a contract sees of the children of all groups.
 use Rattle.std.specs.Prelude.{ℕ, List}
 

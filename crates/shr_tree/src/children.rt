@@ -1,3 +1,4 @@
+// SPDX-License-Identifier: GPL-2.0-only
 //! The children of each group.
 
 ghost use Rattle.std.specs.Prelude.{◌≡◌, ◌<◌, ◌++◌, ◌∷◌, [], IfOk, OnOk, length, slice_index, slice_index_or, slice_set};
@@ -25,7 +26,7 @@ impl Model for Children {
 }
 
 impl Children {
-    /// Where only the root is there: it has no children. Our own.
+    /// Where only the root is there: it has no children.
     pub fn of_root(alloc: Global) -> Result<Children, Memory>
         ensures { IfOk result (λ c. c.lists ≡ [] ∷ []) }
     {
@@ -44,7 +45,7 @@ impl Children {
         self.lists[group as usize].as_slice()
     }
 
-    /// Makes room for one more group, below this parent. Our own.
+    /// Makes room for one more group, below this parent.
     pub fn reserve(&mut self, parent: u16) -> Result<(), Memory>
         requires { parent < length self.old.lists }
         ensures lists { self.new.lists ≡ self.old.lists }

@@ -1,3 +1,4 @@
+// SPDX-License-Identifier: GPL-2.0-only
 //! Why a group can't be added.
 
 ghost use Rattle.std.specs.Prelude.{◌≡◌};
@@ -7,7 +8,7 @@ use shr_base::memory::Memory;
 use std::alloc::AllocError;
 use thiserror::Error;
 
-/// Why a group can't be added, in the order of the tests. Our own.
+/// Why a group can't be added, in the order of the tests.
 #[derive(Clone, Copy, Debug, PartialEq, Eq, Error)]
 pub enum TreeError {
     #[error("the path is not well formed")]

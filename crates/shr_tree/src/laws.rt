@@ -1,3 +1,4 @@
+// SPDX-License-Identifier: GPL-2.0-only
 //! Laws of the tree of groups, as the clauses of functions that do nothing.
 
 ghost use Rattle.std.specs.Prelude.{◌≡◌, ◌<◌, ◌≤◌, ℕ, List, [], ◌∷◌, length};
@@ -20,7 +21,7 @@ pub fn at_or_above_is_an_order()
         → (b : ℕ) → b < length parents → IsAtOrAbove parents 0 b }
 {}
 
-/// What is at or above a group has no higher number, and a parent has a lower one. Our own.
+/// What is at or above a group has no higher number, and a parent has a lower one.
 pub fn numbers_rise_downwards()
     ensures above { (parents : List ℕ) → IsTree parents
         → (g b : ℕ) → b < length parents → IsAtOrAbove parents g b → g ≤ b }
@@ -29,7 +30,7 @@ pub fn numbers_rise_downwards()
 {}
 
 /// The path of a group is the group and then the path of its parent, so each end of a path is a
-/// path. Our own.
+/// path.
 pub fn paths_go_up()
     ensures root { (parents : List ℕ) → path_of parents 0 ≡ 0 ∷ [] }
     ensures below { (parents : List ℕ) → IsTree parents

@@ -1,3 +1,4 @@
+// SPDX-License-Identifier: GPL-2.0-only
 //! The paths of groups, each with its number.
 
 ghost use Rattle.std.specs.Prelude.{◌≡◌, ◌<◌, ◌++◌, ◌∷◌, [], None, OnOk, OnErr, IfSome, length};
@@ -8,7 +9,7 @@ use shr_base::memory::Memory;
 use std::alloc::Global;
 use std::marker::Model;
 
-/// Paths in the order of their declarations, which contracts see as their list. Our own.
+/// Paths in the order of their declarations, which contracts see as their list.
 #[derive(Drop)]
 pub struct PathNames {
     words: IndexSet<Vec<u8>>,
@@ -23,7 +24,7 @@ impl Model for PathNames {
 }
 
 impl PathNames {
-    /// No path yet. Our own.
+    /// No path yet.
     pub fn new(alloc: Global) -> PathNames
         ensures { result ≡ [] }
     {
@@ -32,7 +33,7 @@ impl PathNames {
         }
     }
 
-    /// The number of a path, by one look-up. Our own.
+    /// The number of a path, by one look-up.
     pub fn place(&self, path: &[u8]) -> Option<usize>
         ensures place { result ≡ place_of path.now self.now }
         ensures within { IfSome result (λ i. i < length self.now) }
@@ -40,14 +41,14 @@ impl PathNames {
         self.words.get_index_of(path)
     }
 
-    /// How many paths were declared. Our own.
+    /// How many paths were declared.
     pub fn len(&self) -> usize
         ensures { result ≡ length self.now }
     {
         self.words.len()
     }
 
-    /// Declares a path that isn't there. Without memory the paths stay as they are. Our own.
+    /// Declares a path that isn't there. Without memory the paths stay as they are.
     pub fn declare(&mut self, alloc: Global, path: &[u8]) -> Result<(), Memory>
         requires { place_of path.now self.old ≡ None }
         ensures declared { OnOk result (self.new ≡ self.old ++ path.now ∷ []) }

@@ -1,3 +1,4 @@
+// SPDX-License-Identifier: GPL-2.0-only
 //! The tree of groups.
 
 ghost use Rattle.std.specs.Prelude.{◌≡◌, ◌<◌, ◌≤◌, ◌++◌, true, false, Some, None, slice_get, length, unwrap_or, IfOk, IfSome, OnErr, OnOk};
@@ -17,7 +18,7 @@ use shr_words::paths::{is_path, parent_path};
 use std::alloc::Global;
 use std::marker::Model;
 
-/// The most groups that there may be, the root counted. Our own.
+/// The most groups that there may be, the root counted.
 pub const MAX_GROUPS: usize = 256;
 
 #[derive(Clone, Copy)]
@@ -135,7 +136,7 @@ impl Tree {
     /// Adds a group below that of its parent path, and gives its number.
     ///
     /// The reasons against it are tested in the order of `TreeError`; a later group is no parent of
-    /// it. Whatever the reason, the tree stays as it was. Our own.
+    /// it. Whatever the reason, the tree stays as it was.
     pub fn add(&mut self, path: &Text, limit: Option<u32>) -> Result<u16, TreeError>
         ensures refused { Refuses result (refusal_of self.old false path.now) }
         ensures number { IfOk result (λ g. g ≡ length self.old.parents) }
@@ -147,7 +148,7 @@ impl Tree {
     }
 
     /// Adds a group that isn't there at the start, and gives its number, as `add`. Its parent may be
-    /// later too. Our own.
+    /// later too.
     pub fn add_later(&mut self, path: &Text, limit: Option<u32>) -> Result<u16, TreeError>
         ensures refused { Refuses result (refusal_of self.old true path.now) }
         ensures number { IfOk result (λ g. g ≡ length self.old.parents) }
@@ -158,7 +159,7 @@ impl Tree {
         self.put(path, limit, true)
     }
 
-    /// Whether a group isn't there at the start. Our own.
+    /// Whether a group isn't there at the start.
     pub fn later(&self, g: u16) -> bool
         requires { g < length self.now.parents }
         ensures { result ≡ is_later self.now.later g }
@@ -166,8 +167,7 @@ impl Tree {
         self.groups.as_slice()[g as usize].later
     }
 
-    /// The same of each group in the order of their numbers. `Memory` comes for want of memory. Our
-    /// own.
+    /// The same of each group in the order of their numbers. `Memory` comes for want of memory.
     pub fn laters(&self) -> Result<Log<bool>, Memory>
         ensures { IfOk result (λ l. l.items ≡ self.now.later) }
     {
@@ -178,7 +178,7 @@ impl Tree {
         Ok(later)
     }
 
-    /// How many groups there are, the root counted. Our own.
+    /// How many groups there are, the root counted.
     pub fn len(&self) -> u16
         ensures groups { result ≡ length self.now.parents }
         ensures few { result ≤ 256 }
@@ -189,7 +189,7 @@ impl Tree {
         self.groups.len() as u16
     }
 
-    /// The number of a path's group, by one look-up. Our own.
+    /// The number of a path's group, by one look-up.
     pub fn find(&self, path: &Text) -> Option<u16>
         ensures { result ≡ place_of path.now self.now.paths }
     {

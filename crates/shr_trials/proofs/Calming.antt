@@ -1,3 +1,4 @@
+-- SPDX-License-Identifier: GPL-2.0-only
 -- Each call leaves its seat calm, and where it stands among the seats.
 use Rattle.shr_trials.proofs.Common.{◌≡◌, ℕ, List, ap, ◌∙◌, IsCalm, StaysCalm, None}
 use Rattle.shr_base.specs.declared.objects.Object.{Object}

@@ -1,3 +1,4 @@
+-- SPDX-License-Identifier: GPL-2.0-only
 -- The names that the proofs of this crate cite most, passed on from one place. Declares nothing.
 pub use Rattle.std.proofs.Common.{Bool, List, ap, subst, ℕ, ◌∙◌, ◌≡◌, ◌≤◌}
 pub use Rattle.std.specs.Option.{IsSome, is_some}

@@ -1,2 +1,3 @@
+-- SPDX-License-Identifier: GPL-2.0-only
 mod Common
 pub mod Calming

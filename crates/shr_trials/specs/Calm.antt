@@ -1,3 +1,4 @@
+-- SPDX-License-Identifier: GPL-2.0-only
 -- A seat between the calls of a trial.
 use Rattle.std.specs.Prelude.{◌≡◌, [], None}
 use Rattle.shr_core.specs.declared.view.View.{View}

@@ -1,3 +1,4 @@
+// SPDX-License-Identifier: GPL-2.0-only
 //! The calls on a list by a name each, and what each is told, as a word and numbers.
 
 ghost use Rattle.shr_core.specs.Seats.{view_of};
@@ -12,7 +13,7 @@ use shr_core::seat::Seat;
 use shr_node::answers::{NodeAnswer, NodeScan, SpliceAnswer};
 use std::sync::Wait;
 
-/// A call on a list. A scan has a budget of nine visits. Our own.
+/// A call on a list. A scan has a budget of nine visits.
 #[derive(Clone, Copy)]
 pub(crate) enum Act {
     Put,
@@ -24,7 +25,7 @@ pub(crate) enum Act {
 }
 
 /// A word, and of an entry its group and number; of a list that is full its group and the entries
-/// and objects that it would have; of a scan what it met and freed; of a splice what it moved. Our own.
+/// and objects that it would have; of a scan what it met and freed; of a splice what it moved.
 pub(crate) type Heard = (&'static str, u16, u64, u64);
 
 // There was no such call, or no memory.
@@ -118,7 +119,7 @@ fn of_close(answer: Option<SpliceAnswer>) -> Heard {
     }
 }
 
-/// Makes the call where the seat may make it, and tells what it was told. Our own.
+/// Makes the call where the seat may make it, and tells what it was told.
 pub(crate) fn make<R: Wait>(
     rt: &R,
     seat: &mut Seat<'_>,

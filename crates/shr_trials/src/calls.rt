@@ -1,3 +1,4 @@
+// SPDX-License-Identifier: GPL-2.0-only
 //! The calls, each made if its seat may make it, and else answered with None.
 
 ghost use Rattle.std.specs.Prelude.{◌≡◌, ◌<◌, true, Some};
@@ -27,7 +28,7 @@ const BY: Serial = Serial {
     command: 0,
 };
 
-/// The place of a group at id 0 and node 0. Our own.
+/// The place of a group at id 0 and node 0.
 pub(crate) fn place_of(group: u16) -> Place
     ensures { result ≡ record { id = 0; node = 0; group = group } }
 {
@@ -55,7 +56,7 @@ fn may_call(seat: &Seat<'_>, place: Place) -> bool
         && (place.group as usize) < shape.parents.len()
 }
 
-/// Registers a declaration. Our own.
+/// Registers a declaration.
 pub(crate) fn register<R: Wait>(rt: &R, seat: &mut Seat<'_>, decl: u8) -> Option<RegisterAnswer>
     requires { IsCalm (view_of seat.old) }
     ensures { StaysCalm seat.old seat.new }
@@ -66,7 +67,7 @@ pub(crate) fn register<R: Wait>(rt: &R, seat: &mut Seat<'_>, decl: u8) -> Option
     Some(registering::register(rt, seat, decl))
 }
 
-/// Finds a declaration, and holds its id. Our own.
+/// Finds a declaration, and holds its id.
 pub(crate) fn hold<R: Wait>(rt: &R, seat: &mut Seat<'_>, decl: u8) -> Option<FindAnswer>
     requires { IsCalm (view_of seat.old) }
     ensures { StaysCalm seat.old seat.new }
@@ -77,7 +78,7 @@ pub(crate) fn hold<R: Wait>(rt: &R, seat: &mut Seat<'_>, decl: u8) -> Option<Fin
     Some(find(rt, seat, decl))
 }
 
-/// Unregisters a declaration. Our own.
+/// Unregisters a declaration.
 pub(crate) fn unregister<R: Wait>(rt: &R, seat: &mut Seat<'_>, decl: u8) -> Option<UnregisterAnswer>
     requires { IsCalm (view_of seat.old) }
     ensures { StaysCalm seat.old seat.new }
@@ -88,7 +89,7 @@ pub(crate) fn unregister<R: Wait>(rt: &R, seat: &mut Seat<'_>, decl: u8) -> Opti
     Some(unregistering::unregister(rt, seat, decl, BY))
 }
 
-/// Gives the reference to the id back, if the seat holds one. Our own.
+/// Gives the reference to the id back, if the seat holds one.
 pub(crate) fn rest(seat: &mut Seat<'_>)
     requires { IsCalm (view_of seat.old) }
     ensures rest { IsAtRest (view_of seat.new) }
@@ -99,7 +100,7 @@ pub(crate) fn rest(seat: &mut Seat<'_>)
     }
 }
 
-/// Adds an object of this key. Our own.
+/// Adds an object of this key.
 pub(crate) fn put<R: Wait>(
     rt: &R,
     seat: &mut Seat<'_>,
@@ -123,7 +124,7 @@ pub(crate) fn put<R: Wait>(
     Some(tenants::add(rt, seat, place.id, place.node, object))
 }
 
-/// Looks an object up. Our own.
+/// Looks an object up.
 pub(crate) fn get<R: Wait>(
     rt: &R,
     seat: &mut Seat<'_>,
@@ -146,7 +147,7 @@ pub(crate) fn get<R: Wait>(
     Some(tenants::look(rt, seat, call, &key))
 }
 
-/// Takes an object out. Our own.
+/// Takes an object out.
 pub(crate) fn del<R: Wait>(
     rt: &R,
     seat: &mut Seat<'_>,
@@ -169,7 +170,7 @@ pub(crate) fn del<R: Wait>(
     Some(tenants::drop_key(rt, seat, call, &key))
 }
 
-/// Pins an object. Our own.
+/// Pins an object.
 pub(crate) fn pin<R: Wait>(
     rt: &R,
     seat: &mut Seat<'_>,
@@ -192,7 +193,7 @@ pub(crate) fn pin<R: Wait>(
     Some(tenants::set_pin(rt, seat, call, &key, true))
 }
 
-/// Scans the list of a group, with a budget of this many visits. Our own.
+/// Scans the list of a group, with a budget of this many visits.
 pub(crate) fn walk<R: Wait>(
     rt: &R,
     seat: &mut Seat<'_>,
@@ -214,7 +215,7 @@ pub(crate) fn walk<R: Wait>(
     Some(scan(rt, seat, place, request))
 }
 
-/// Closes the lists of a group and of those below it. Our own.
+/// Closes the lists of a group and of those below it.
 pub(crate) fn close<R: Wait>(rt: &R, seat: &mut Seat<'_>, place: Place) -> Option<SpliceAnswer>
     requires { IsCalm (view_of seat.old) }
     ensures { StaysCalm seat.old seat.new }
@@ -225,7 +226,7 @@ pub(crate) fn close<R: Wait>(rt: &R, seat: &mut Seat<'_>, place: Place) -> Optio
     Some(splice(rt, seat, place.id, place.node, place.group))
 }
 
-/// Counts a place. Our own.
+/// Counts a place.
 pub(crate) fn count(seat: &mut Seat<'_>, place: Place) -> Option<Seen>
     requires { IsCalm (view_of seat.old) }
     ensures { StaysCalm seat.old seat.new }
@@ -236,7 +237,7 @@ pub(crate) fn count(seat: &mut Seat<'_>, place: Place) -> Option<Seen>
     Some(seat.count(place))
 }
 
-/// Loads the word of an id. Our own.
+/// Loads the word of an id.
 pub(crate) fn word_of(seat: &mut Seat<'_>, id: u16) -> Option<LookupWord>
     requires { IsCalm (view_of seat.old) }
     ensures { StaysCalm seat.old seat.new }

@@ -1,3 +1,4 @@
+// SPDX-License-Identifier: GPL-2.0-only
 //! A core of four groups in a line, with one seat that holds an id after another, or with two.
 
 ghost use Rattle.std.specs.Prelude.{◌≡◌, IfOk};
@@ -26,7 +27,7 @@ use std::sync::Wait;
 use std::test::Fail;
 
 /// How many nodes there are, how many ids and declarations, what a list takes at most, and the number of each id's first
-/// lookup. Our own.
+/// lookup.
 #[derive(Clone, Copy)]
 pub(crate) struct Sizes {
     pub(crate) nodes: u8,
@@ -36,7 +37,7 @@ pub(crate) struct Sizes {
     pub(crate) first_lookup: u32,
 }
 
-/// One node and one id, and lists of any length. Our own.
+/// One node and one id, and lists of any length.
 pub(crate) const WIDE: Sizes = Sizes {
     nodes: 1,
     ids: 1,
@@ -83,7 +84,7 @@ fn line(alloc: Global, sizes: Sizes) -> Result<Shape, Fail>
     })
 }
 
-/// A core of these sizes, with its first seat. Our own.
+/// A core of these sizes, with its first seat.
 pub(crate) fn open(alloc: Global, sizes: Sizes) -> Result<(Core, FirstSeat), Fail>
     ensures { IfOk result (λ t. IsFirstOf t.0 t.1 × (first_view t.1 ≡ opener)) }
 {
@@ -104,7 +105,7 @@ fn register_all<R: Wait>(rt: &R, seat: &mut Seat<'_>) -> Result<(), Fail>
     Ok(())
 }
 
-/// The first seat of a core, and the number of the lookup by which it came to hold id 0. Our own.
+/// The first seat of a core, and the number of the lookup by which it came to hold id 0.
 #[derive(Drop)]
 pub(crate) struct Desk<'a> {
     pub(crate) seat: Seat<'a>,
@@ -113,12 +114,12 @@ pub(crate) struct Desk<'a> {
     ghost first: { (view_of seat).standing ≡ at_first },
 }
 
-/// A call for the list of id 0 and a group, with its key, and what it is to be told. Our own.
+/// A call for the list of id 0 and a group, with its key, and what it is to be told.
 pub(crate) type Row = (Act, u16, &'static [u8], Heard);
 
 impl<'a> Desk<'a> {
     /// A desk at a new core: each declaration is registered as the id of its number, and the seat
-    /// holds id 0. Our own.
+    /// holds id 0.
     pub(crate) fn new<R: Wait>(rt: &R, core: &'a Core, first: FirstSeat) -> Result<Desk<'a>, Fail>
         requires { IsFirstOf core.now first × (first_view first ≡ opener) }
         ensures { IfOk result (λ d. d.seat.core ≡ core.entry.now) }
@@ -131,14 +132,14 @@ impl<'a> Desk<'a> {
         Ok(Desk { seat, number })
     }
 
-    /// Makes a call. Our own.
+    /// Makes a call.
     pub(crate) fn make<R: Wait>(&mut self, rt: &R, act: Act, place: Place, key: &[u8]) -> Heard
         ensures { self.new.seat.core ≡ self.old.seat.core }
     {
         make(rt, &mut self.seat, act, place, key)
     }
 
-    /// Makes the calls of these rows, and gives the first that was told something else. Our own.
+    /// Makes the calls of these rows, and gives the first that was told something else.
     pub(crate) fn first_unlike<R: Wait>(&mut self, rt: &R, rows: &[Row]) -> Option<usize>
         ensures { self.new.seat.core ≡ self.old.seat.core }
     {
@@ -151,29 +152,29 @@ impl<'a> Desk<'a> {
         None
     }
 
-    /// Counts the list of id 0 and a group. Our own.
+    /// Counts the list of id 0 and a group.
     pub(crate) fn count(&mut self, group: u16) -> Option<Seen> {
         count(&mut self.seat, place_of(group))
     }
 
-    /// Loads the word of id 0. Our own.
+    /// Loads the word of id 0.
     pub(crate) fn word(&mut self) -> Option<LookupWord> {
         word_of(&mut self.seat, 0)
     }
 
-    /// Gives the reference back, and holds another declaration's id. Our own.
+    /// Gives the reference back, and holds another declaration's id.
     pub(crate) fn turn<R: Wait>(&mut self, rt: &R, decl: u8) -> Option<FindAnswer> {
         rest(&mut self.seat);
         hold(rt, &mut self.seat, decl)
     }
 
-    /// Gives the reference back, and registers a declaration. Our own.
+    /// Gives the reference back, and registers a declaration.
     pub(crate) fn register<R: Wait>(&mut self, rt: &R, decl: u8) -> Option<RegisterAnswer> {
         rest(&mut self.seat);
         register(rt, &mut self.seat, decl)
     }
 
-    /// Gives the reference back, and unregisters a declaration. Our own.
+    /// Gives the reference back, and unregisters a declaration.
     pub(crate) fn unregister<R: Wait>(&mut self, rt: &R, decl: u8) -> Option<UnregisterAnswer> {
         rest(&mut self.seat);
         unregister(rt, &mut self.seat, decl)
@@ -207,7 +208,7 @@ fn told<R: Wait>(
 }
 
 /// Whether the calls of these rows are told what they must be, and this is left of id 0 at group 1,
-/// in letters. Our own.
+/// in letters.
 pub(crate) fn leave<R: Wait>(
     rt: &R,
     alloc: Global,
@@ -221,7 +222,7 @@ pub(crate) fn leave<R: Wait>(
     Ok(spelled(alloc, &closed, place_of(1))?.as_slice() == left && is_told)
 }
 
-/// The first seat of a new core, which was split once, and the other. Both hold id 0. Our own.
+/// The first seat of a new core, which was split once, and the other. Both hold id 0.
 pub(crate) fn pair<'a, R: Wait>(
     rt: &R,
     core: &'a Core,
@@ -243,7 +244,7 @@ pub(crate) fn pair<'a, R: Wait>(
     Ok((first, second))
 }
 
-/// Joins the second seat, and leaves the core. Our own.
+/// Joins the second seat, and leaves the core.
 pub(crate) fn join<'a>(mut first: Seat<'a>, second: Seat<'a>) -> FirstSeat
     requires core { second.core ≡ first.core }
     requires rest { IsAtRest (view_of first) × IsAtRest (view_of second) }
@@ -256,7 +257,7 @@ pub(crate) fn join<'a>(mut first: Seat<'a>, second: Seat<'a>) -> FirstSeat
 }
 
 /// Ends the core: how many objects of id 0 are left at group 1 and at group 2, and whether the bit
-/// of group 1 is set. Our own.
+/// of group 1 is set.
 pub(crate) fn end(core: Core, first: FirstSeat) -> Result<(usize, usize, bool), Memory>
     requires first { IsFirstOf core first }
     requires whole { IsWhole (first_view first).standing }

@@ -1,3 +1,4 @@
+// SPDX-License-Identifier: GPL-2.0-only
 //! Lists that go to a parent's, late calls for their groups, and a parent without room.
 
 use crate::acts::Act::{Close, Del, Get, Pin, Put, Scan};

@@ -1,3 +1,4 @@
+// SPDX-License-Identifier: GPL-2.0-only
 //! What is left when a core has ended.
 
 use shr_base::ends::{Closed, PlaceEnd};
@@ -26,7 +27,7 @@ fn add_keys(text: &mut Vec<u8>, end: &PlaceEnd) -> Result<(), Memory> {
 }
 
 /// The keys of a list from the head, and `*` behind them if the bit of the place is set, for an id
-/// of 0. Our own.
+/// of 0.
 pub(crate) fn spelled(alloc: Global, closed: &Closed, place: Place) -> Result<Vec<u8>, Memory> {
     let mut text = Vec::new(alloc);
     if let Some(end) = end_of(closed, place) {
@@ -38,7 +39,7 @@ pub(crate) fn spelled(alloc: Global, closed: &Closed, place: Place) -> Result<Ve
     Ok(text)
 }
 
-/// How many objects are in a list. Our own.
+/// How many objects are in a list.
 pub(crate) fn objects_at(closed: &Closed, place: Place) -> usize {
     match end_of(closed, place) {
         Some(end) => end.items.len(),
@@ -46,7 +47,7 @@ pub(crate) fn objects_at(closed: &Closed, place: Place) -> usize {
     }
 }
 
-/// Whether the bit of id 0 is set in the map of a group. Our own.
+/// Whether the bit of id 0 is set in the map of a group.
 pub(crate) fn is_marked(closed: &Closed, group: u16) -> bool {
     let mut maps = closed.maps.as_slice().iter();
     maps.any(|map| map.group == group && map.bits % 2 == 1)

@@ -1,3 +1,4 @@
+// SPDX-License-Identifier: GPL-2.0-only
 //! Lists, words, rooms and registrations by calls, by one thread and by two.
 #![tactic(auto)]
 

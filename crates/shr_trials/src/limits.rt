@@ -1,3 +1,4 @@
+// SPDX-License-Identifier: GPL-2.0-only
 //! Journals, lookups and phases that are used up.
 
 use crate::acts::Act::{Del, Get, Pin, Put, Scan};

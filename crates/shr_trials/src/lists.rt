@@ -1,3 +1,4 @@
+// SPDX-License-Identifier: GPL-2.0-only
 //! The calls of a list at known values.
 
 use shr_base::objects::{Object, Policy};

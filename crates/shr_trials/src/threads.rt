@@ -1,3 +1,4 @@
+// SPDX-License-Identifier: GPL-2.0-only
 //! Two threads at the lists of one cache. The test holds for every schedule.
 
 ghost use Rattle.std.specs.Prelude.{◌≤◌};

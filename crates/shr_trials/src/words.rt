@@ -1,3 +1,4 @@
+// SPDX-License-Identifier: GPL-2.0-only
 //! A lookup word and a count word at known values.
 
 use crate::acts::Act::{Del, Put};

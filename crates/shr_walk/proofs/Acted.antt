@@ -1,3 +1,4 @@
+-- SPDX-License-Identifier: GPL-2.0-only
 -- What a worker keeps, call after call.
 use Rattle.shr_walk.proofs.Common.{◌≡◌, ℕ, Bool, List, [], ◌∷◌, ◌++◌, length, refl, sym, subst, ◌∙◌, GroupState, WalkRecord, Attempt, Shared, Walk, IsAttempted, Serial, WalkAnswer, WorkerState, Does, walk_work, word_work, OneGives, walk_over, Acting, IsSame, IsStill, walk_of}
 use Rattle.shr_charge.specs.Steps.{with_load}

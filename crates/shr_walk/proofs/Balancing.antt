@@ -1,3 +1,4 @@
+-- SPDX-License-Identifier: GPL-2.0-only
 -- One group's walk after another.
 use Rattle.shr_walk.proofs.Common.{◌≡◌, ◌≢◌, ℕ, ◌+◌, ◌<◌, ◌≤◌, List, [], ◌∷◌, ◌++◌, length, take, get_or, map, true, false, refl, sym, ap, subst, ◌∙◌, inl, inr, ⊎_elim, arith, sum, Contains, All, nat_tests, All-nil, All-append, All-cons, WalkAnswer, IsTree, Shared, Walk, WorkerState, OneGives, walk_over, all_groups, IsBalanceCut, eqb, cases_Bool, take_more, take_all, preorder_of, AreWalked, walk_freed, lacked_memory, HadMemory, IsBalanced}
 use Rattle.std.specs.List.{AllByRecursion, IsDistinct, list_any}

@@ -1,3 +1,4 @@
+-- SPDX-License-Identifier: GPL-2.0-only
 -- How often walks and tries call to charge and to uncharge.
 use Rattle.shr_walk.proofs.ChargingCommon.{◌≡◌, ℕ, zero, suc, ◌+◌, ◌^◌, ◌<◌, List, [], ◌∷◌, length, Bool, true, false, refl, ap, subst, ◌∙◌, ⊎_elim, arith, cond, Some, None, Serial, WalkAnswer, ChargeAnswer, Uses, Shared, Walk, OneGives, WorkerState, Work, Does, WalkGives, RootGives, WalkMade, RootMade, IsMade, IsWalked, IsRootWalked, Visit, AreVisited, walk_for, IsChargeTried, charge_work, ◌||◌, nat_le, counted, spent_by}
 use Rattle.std.proofs.lemmas.Bool.Decides.{nat_tests}

@@ -1,3 +1,4 @@
+-- SPDX-License-Identifier: GPL-2.0-only
 -- The jobs of a round, node by node.
 use Rattle.shr_walk.proofs.ChargingCommon.{◌≡◌, ℕ, ◌+◌, ◌<◌, List, [], ◌∷◌, ◌++◌, length, take, drop, get_or, false, sym, ap, ◌∙◌, arith, flat_map, All, flat_map-append, map-append, append-nil, take-append-drop, IsTree, preorder_of, Job, job, shape_of, Shared, jobs_on, due_in, take_more, take_all, Contains-get_or}
 use Rattle.std.specs.List.{range_with_len}

@@ -1,3 +1,4 @@
+-- SPDX-License-Identifier: GPL-2.0-only
 -- A walk over units and ids, put together of its parts.
 use Rattle.shr_walk.proofs.Common.{◌≡◌, ℕ, ◌<◌, ◌^◌, inl, inr, Bool, true, false, List, [], ◌∷◌, ◌++◌, map, length, sym, refl, ap, subst, ◌∙◌, arith, append_assoc, length-append, map-append, append-nil, All-nil, All-append, All-cons, Attempt, MapSeen, map_number, Shared, Walk, nothing, WorkerState, Work, no_work, Does, IsAttempted, IsUncut, is_outcome_cut, Ends, IsWalkOver, AreTried, with_map, of_map}
 use Rattle.shr_walk.proofs.Attempting.{does_core}

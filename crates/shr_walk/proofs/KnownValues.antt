@@ -1,3 +1,4 @@
+-- SPDX-License-Identifier: GPL-2.0-only
 -- Known values of what the tree of a script is, and of which groups are walked.
 use Rattle.shr_walk.proofs.Common.{◌≡◌, true, false, [], ◌∷◌, None, refl, arith, GroupDecl, Online, Offline, NotMade, groups_of, GoesOn, IsWalkNumber}
 

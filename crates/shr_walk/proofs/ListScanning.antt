@@ -1,3 +1,4 @@
+-- SPDX-License-Identifier: GPL-2.0-only
 -- What follows of one scan of a list.
 use Rattle.shr_walk.proofs.Common.{◌≡◌, ℕ, suc, ◌+◌, ◌-◌, ◌*◌, ◌<◌, ◌≤◌, inl, inr, cond, Bool, true, false, List, [], ◌∷◌, ◌++◌, length, sym, refl, ap, subst, ◌∙◌, arith, nat_le, ◌||◌, ◌⊎◌, Some, None, nat_tests, append-nil, Place, Serial, Policy, Spent, depth_of, place_number, View, view_of, shape_of, uses_of, spent_by, counted, Uses, Gains, FreesAtMost, scans_with, CacheSeat, Shared, Tells, scans_at, HaveRoom, AreChargesTold, ListScanGives, FindsUsedUp, without_visits}
 use Rattle.shr_base.specs.declared.replies.Spent.TheVariants as spent

@@ -1,3 +1,4 @@
+-- SPDX-License-Identifier: GPL-2.0-only
 -- What tries and walks charge and take back in each group, and how often a group refuses.
 use Rattle.shr_walk.proofs.ChargingCommon.{◌≡◌, ℕ, ◌+◌, List, [], ◌∷◌, ◌++◌, map, cond, Bool, true, false, refl, sym, ap, subst, ◌∙◌, arith, All, ◌==◌, Option, Some, None, All-head, All-tail, UseStep, Serial, path_of, Shape, AreDowns, ChargeOps, IsDown, IsUp, use_group, path_to, ups_at, count_by, not, ◌&&◌, int_lt, pos, T, IsOverLimit, shape_limit, downs_at}
 use Rattle.std.proofs.lemmas.List.Sums.{sum_by-append, sum_by-cons}

@@ -1,3 +1,4 @@
+-- SPDX-License-Identifier: GPL-2.0-only
 -- A try of a charge, over the state of its worker.
 use Rattle.shr_walk.proofs.ChargingCommon.{◌≡◌, ℕ, ◌^◌, ◌<◌, ◌≤◌, List, [], ◌∷◌, ◌++◌, length, map, sym, ap, subst, ◌∙◌, arith, length-append, length-map, UseStep, Serial, depth_of, ChargeAnswer, Shape, ChargeOps, use_group, uses_of, tree_of, Uses, Shared, Does, state_of, does_none, IsChargeTried, charge_work, ◌*◌, Charges, TreeView}
 use Rattle.shr_charge.specs.declared.answers.ChargeAnswer.TheVariants as charge

@@ -1,3 +1,4 @@
+-- SPDX-License-Identifier: GPL-2.0-only
 -- A tree that is built group by group is that of a script.
 use Rattle.shr_walk.proofs.Common.{◌≡◌, ℕ, zero, suc, ◌+◌, ◌<◌, ◌≤◌, ⊎_elim, List, [], ◌∷◌, ◌++◌, map, take, get_or, length, refl, sym, ap, subst, ◌∙◌, arith, append_assoc, Bool, false, Option, Some, None, cases_lt, append-nil, length-map, GroupDecl, IsTree, depth_of, root_path, content_of, HaveParentsBefore, within_of_valid, Shape, groups_of, Err, unwrap_or, lt-leb, map_push, length-take-le, IsHierarchy, parent_path, Content, IsValid, or_root, IsShape, HasLimits, IsDeepest, IsShapeOf}
 use Rattle.shr_base.specs.declared.scripts.Script.{Script}

@@ -1,3 +1,4 @@
+-- SPDX-License-Identifier: GPL-2.0-only
 -- The first numbers, the first of a list, and the set bits below a bit.
 use Rattle.shr_walk.proofs.Common.{◌≡◌, ℕ, zero, suc, ◌+◌, ◌-◌, ◌*◌, ◌≤◌, ◌==◌, cond, Bool, true, false, List, [], ◌∷◌, ◌++◌, map, length, take, sym, ap, subst, ◌∙◌, arith, append_assoc, length-append, append-nil, map-append, bit_at, filter, is_set, range_with_len, IsPrefixOf}
 use Rattle.std.proofs.Math.Seq.{take-append-add}

@@ -1,3 +1,4 @@
+-- SPDX-License-Identifier: GPL-2.0-only
 -- Laws of a whole charge with its reclaim, for the layers above.
 use Rattle.shr_walk.proofs.ChargingCommon.{◌≡◌, ℕ, ◌+◌, ◌-◌, ◌≤◌, List, [], ◌∷◌, ◌++◌, length, map, drop, refl, sym, ap, subst, ◌∙◌, ⊎_elim, arith, append_assoc, All, ◌<◌, flat_map, map-append, append-nil, length-map, Serial, IsAtOrAbove, path_of, IsPrefixOf, Job, shape_of, ChargeAnswer, path_to, ups_at, Shared, shared_parents, paths_of, objects_freed, WorkerState, Work, then_work, Does, does_then, Visit, Round, AreVisited, AreRounds, VisitHadMemory, TriesInRounds, WalksFirst, due_in, job_in, IsChargeTried, charge_work}
 use Rattle.std.specs.List.{AllByRecursion}

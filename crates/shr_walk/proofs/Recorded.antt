@@ -1,3 +1,4 @@
+-- SPDX-License-Identifier: GPL-2.0-only
 -- What the whole of a charge with its reclaim adds to a worker's state.
 use Rattle.shr_walk.proofs.ChargingCommon.{◌≡◌, ℕ, zero, suc, ◌<◌, List, [], ◌∷◌, ◌++◌, length, map, Bool, true, false, refl, sym, ap, subst, ◌∙◌, inl, inr, ⊎_elim, arith, All, Option, flat_map-append, map-append, All-nil, All-append, All-head, All-tail, UseStep, Serial, WalkAnswer, path_of, Job, AreDowns, IsDown, use_group, Shared, Walk, OneGives, lacked_memory, shared_parents, paths_of, objects_freed, WorkerState, Work, no_work, then_work, Does, WalkGives, RootGives, WalkMade, RootMade, IsMade, IsWalkOver, IsWalked, IsRootWalked, does_none, does_then, Visit, IsVisited, AreVisited, VisitHadMemory, walk_for, ◌⊎◌, job_of, WalkParts, IsRecordOf, AreParts, parts_of}
 use Rattle.shr_base.specs.declared.objects.Object.{Object}

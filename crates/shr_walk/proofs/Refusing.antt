@@ -1,3 +1,4 @@
+-- SPDX-License-Identifier: GPL-2.0-only
 -- The group that refuses a charge is one of the charged group's path.
 use Rattle.shr_walk.proofs.ChargingCommon.{◌≡◌, ℕ, zero, suc, ◌+◌, ◌<◌, ◌≤◌, Bool, true, false, cond, List, [], ◌∷◌, ◌++◌, length, map, refl, sym, ap, subst, ◌∙◌, inl, inr, arith, ◌==◌, Serial, UseStep, IsTree, IsAtOrAbove, path_of, Shape, use_group, path_to, ◌≢◌, eq-eqb, ne_eqb, parent_of, IsChargeRefused}
 use Rattle.std.proofs.lemmas.Bool.Decides.{eqb_tells}

@@ -1,3 +1,4 @@
+-- SPDX-License-Identifier: GPL-2.0-only
 -- What a visit comes to whose bit was cleared, by its second pass.
 use Rattle.shr_walk.proofs.Common.{◌≡◌, ℕ, ◌<◌, sym, ap, subst, refl, ◌∙◌, Place, Outcome, place_number, ChargeSeated, View, view_of, with_clear, Count, ScanSeen, ScanAnswer, PassAnswer, List, CacheSeat, IsReadyAs, IsCleared, IsSet, PassMade, VisitGives, IfEmptyPass, RestoreGives, visit_moves}
 use Rattle.shr_pass.specs.Passes.{moves_by}

@@ -1,3 +1,4 @@
+-- SPDX-License-Identifier: GPL-2.0-only
 -- The room of a map's attempts: as many as it has set bits.
 use Rattle.shr_walk.proofs.Common.{◌≡◌, ℕ, zero, suc, ◌+◌, ◌*◌, ◌/◌, ◌%◌, ◌^◌, ◌<◌, ◌≤◌, ◌==◌, cond, List, [], ◌∷◌, length, sym, refl, ap, subst, ◌∙◌, arith, length-append, count_ones, bit_at, mod-lt, pow_pos, IsNextBit, ones_cat, ones_le_self, zero_from_ones, mod-pow-add}
 use Rattle.shr_walk.proofs.Mapping.{more_set, same_set}

@@ -1,3 +1,4 @@
+-- SPDX-License-Identifier: GPL-2.0-only
 -- Rounds one after another.
 use Rattle.shr_walk.proofs.ChargingCommon.{◌≡◌, ℕ, suc, ◌-◌, List, [], ◌∷◌, ◌++◌, length, refl, sym, subst, arith, Serial, ChargeAnswer, Shared, WorkerState, Round, AreRounds, IsRound}
 

@@ -1,3 +1,4 @@
+-- SPDX-License-Identifier: GPL-2.0-only
 -- In each group an up is taken back before the next one.
 use Rattle.shr_walk.proofs.ChargingCommon.{◌≡◌, ℕ, zero, suc, ◌+◌, ◌≤◌, Bool, true, false, cond, List, [], ◌∷◌, ◌++◌, map, refl, sym, ap, subst, ◌∙◌, arith, append_assoc, All, ◌==◌, map-append, All-nil, All-append, All-cons, All-head, All-tail, UseStep, Serial, path_of, Shape, AreDowns, ChargeOps, IsDown, IsUp, use_group, path_to, filter, replicate, filter-append}
 use Rattle.shr_charge.specs.declared.answers.ChargeAnswer.TheVariants as charge

@@ -1,3 +1,4 @@
+-- SPDX-License-Identifier: GPL-2.0-only
 -- What follows for tables that belong together.
 use Rattle.shr_walk.proofs.Common.{◌≡◌, ℕ, ◌≤◌, List, length, sym, ap, subst, ◌∙◌, arith, All, Place, CacheDecl, content_of, within_of_valid, shape_of, IsPlaceOfShape, hierarchy_of, Sizes, IsShared, IsReady, CacheSeat, Seats, Shared, shared_parents, All-from_recursion}
 use Rattle.shr_charge.specs.declared.table.Charge.{Charge}

@@ -1,3 +1,4 @@
+-- SPDX-License-Identifier: GPL-2.0-only
 -- What was shown after what was shown.
 use Rattle.shr_walk.proofs.Common.{◌≡◌, ℕ, ◌<◌, ◌^◌, List, [], ◌∷◌, ◌++◌, sym, ap, subst, arith, Contains, Entry, Place, Spent, Attempt, MapSeen, Outcome, PassRecord, place_number, Begins, Each-append, Each-none, Each-one, begins_all, begins_more, Uses, nothing, Known, Mapped, groups_in, shape_of, Shape, Knows, IsAttempted, tries_in, work_in, born_none, born_then, place_of_walk, Option, None, Some, pass_of, WornSeen, PassSeen, WorkerState, Work, no_work, then_work, Does, Shared, Walk, Contains-append_left, HasShown, IsWalkSeen}
 use Rattle.std.specs.Option.{IfSome}

@@ -1,3 +1,4 @@
+-- SPDX-License-Identifier: GPL-2.0-only
 -- Tries and rounds as the loop goes on.
 use Rattle.shr_walk.proofs.ChargingCommon.{◌≡◌, ℕ, ◌+◌, ◌-◌, ◌<◌, List, [], ◌∷◌, ◌++◌, length, refl, sym, subst, inl, inr, arith, length-append, Memory, Serial, Result, Ok, Err, ChargeAnswer, Shared, WorkerState, Does, no_work, does_none, Visit, Round, TriesInRounds, WalksAll, WalksFirst, due_in, IsChargeTried, Refusal, IsErr, admission_of, refused}
 use Rattle.shr_walk.specs.Admitting.{AdmissionGives, AreRoundsCut}

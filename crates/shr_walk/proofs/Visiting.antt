@@ -1,3 +1,4 @@
+-- SPDX-License-Identifier: GPL-2.0-only
 -- Walks one after another.
 use Rattle.shr_walk.proofs.ChargingCommon.{◌≡◌, List, [], ◌∷◌, ◌++◌, length, map, drop, true, false, refl, sym, ap, subst, ◌∙◌, inl, inr, ⊎_elim, append_assoc, map-append, append-nil, take-append-drop, All-nil, All-append, All-cons, Serial, IsPrefixOf, Job, Shared, Acting, IsSame, OneGives, lacked_memory, same_for, WorkerState, Visit, walk_for, job_in, IsVisited, AreVisited, VisitHadMemory, WalksAll, WalksFirst}
 use Rattle.std.proofs.Math.Seq.{take-append_seam}

@@ -1,3 +1,4 @@
+-- SPDX-License-Identifier: GPL-2.0-only
 -- What a contract sees of a worker.
 use Rattle.std.specs.Prelude.{◌≡◌, ℕ, Bool, length}
 use Rattle.shr_base.specs.declared.places.Serial.{Serial}

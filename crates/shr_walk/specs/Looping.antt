@@ -1,3 +1,4 @@
+-- SPDX-License-Identifier: GPL-2.0-only
 -- What the private steps of a charge say. No public clause cites this.
 use Rattle.std.specs.Prelude.{ℕ, ◌<◌, false, List, map, Result, Ok, Err}
 use Rattle.shr_base.specs.declared.memory.Memory.{Memory}

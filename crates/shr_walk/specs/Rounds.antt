@@ -1,3 +1,4 @@
+-- SPDX-License-Identifier: GPL-2.0-only
 -- Rounds of walks after a refused charge, each with another try of it.
 use Rattle.std.specs.Prelude.{◌≡◌, ◌⊎◌, ℕ, ◌-◌, true, List, [], ◌∷◌, ◌++◌, All, length, map}
 use Rattle.shr_base.specs.declared.places.Serial.{Serial}

@@ -1,3 +1,4 @@
+-- SPDX-License-Identifier: GPL-2.0-only
 -- One try of a charge.
 use Rattle.std.specs.Prelude.{ℕ, List}
 use Rattle.shr_base.specs.declared.journals.UseStep.{UseStep}

@@ -1,6 +1,7 @@
+// SPDX-License-Identifier: GPL-2.0-only
 //! What a charge is answered.
 
-/// What came of a charge and of the reclaim that it made. Our own.
+/// What came of a charge and of the reclaim that it made.
 #[derive(Clone, Copy, Debug, PartialEq, Eq)]
 pub enum Admission {
     /// The group and each of its ancestors is charged for one object more.

@@ -1,3 +1,4 @@
+// SPDX-License-Identifier: GPL-2.0-only
 //! Walks over all groups on a node.
 
 ghost use Rattle.std.specs.Prelude.{◌≡◌, ◌<◌, ◌≤◌, ◌^◌, length};
@@ -11,7 +12,7 @@ use crate::worker::Worker;
 use shr_base::walks::WalkAnswer;
 use std::sync::Wait;
 
-/// What a walk says that it freed. Our own.
+/// What a walk says that it freed.
 pub fn told(answer: &WalkAnswer) -> u64
     ensures { result ≡ walk_freed answer.now }
 {
@@ -22,7 +23,7 @@ pub fn told(answer: &WalkAnswer) -> u64
     }
 }
 
-/// Whether a walk ended for want of memory. Our own.
+/// Whether a walk ended for want of memory.
 pub fn is_short(answer: &WalkAnswer) -> bool
     ensures { result ≡ lacked_memory answer.now }
 {

@@ -1,3 +1,4 @@
+// SPDX-License-Identifier: GPL-2.0-only
 //! A charge and its rounds.
 
 ghost use Rattle.std.specs.Prelude.{◌≡◌, ◌<◌, ◌≤◌, ◌^◌, None, IfOk, OnOk, OnErr};
@@ -12,9 +13,9 @@ ghost use Rattle.shr_walk.specs.Trying.{IsChargeTried};
 
 use crate::admission::Admission;
 use crate::rounds::walk_round;
+use crate::worker::Worker;
 use shr_base::memory::Memory;
 use shr_charge::answers::ChargeAnswer;
-use crate::worker::Worker;
 use std::sync::Wait;
 
 /// The priority of the first round; the last one has 0.

@@ -1,3 +1,4 @@
+// SPDX-License-Identifier: GPL-2.0-only
 //! What the workers share, at the start.
 
 ghost use Rattle.std.specs.Prelude.{◌≡◌, IfOk, OnOk};
@@ -17,10 +18,10 @@ use shr_tree::errors::TreeError;
 use shr_tree::tree::Tree;
 use std::alloc::Global;
 
-/// The most objects that a list may hold. Our own.
+/// The most objects that a list may hold.
 pub const MOST_ITEMS: u32 = 20_000;
 
-/// The most entries that a list's journal may have, its Closed not counted. Our own.
+/// The most entries that a list's journal may have, its Closed not counted.
 pub const MOST_ENTRIES: u32 = 2_147_483_648;
 
 // Adds a group as it is declared, later or not.
@@ -87,7 +88,7 @@ fn deepest(tree: &Tree) -> u16
 
 impl Shared {
     /// The tables of a valid script and the first seats, which have done and seen nothing. No cache
-    /// is registered yet. `Memory` comes for want of memory. Our own.
+    /// is registered yet. `Memory` comes for want of memory.
     pub fn open(alloc: Global, script: Script) -> Result<(Shared, FirstSeats), Memory>
         requires { IsValid (content_of script) }
         ensures shared { IfOk result (λ t. IsShared t.0) }
@@ -119,7 +120,7 @@ impl Shared {
 }
 
 impl FirstSeats {
-    /// The seats at their tables, with nothing noted. Our own.
+    /// The seats at their tables, with nothing noted.
     pub fn at<'a>(self, shared: &'a Shared) -> Seats<'a>
         requires first { AreFirstOf shared.now.core shared.now.charge shared.now.deferred self }
         ensures at { result ≡ seats_at shared.now self }
@@ -144,7 +145,7 @@ impl FirstSeats {
 }
 
 impl<'a> Seats<'a> {
-    /// The first seats, to end the tables with. What was noted is dropped. Our own.
+    /// The first seats, to end the tables with. What was noted is dropped.
     pub fn leave(self) -> FirstSeats
         requires first { MayLeave self }
         ensures left { HaveLeft self.entry result }

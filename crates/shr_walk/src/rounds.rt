@@ -1,3 +1,4 @@
+// SPDX-License-Identifier: GPL-2.0-only
 //! The walks of a round.
 
 ghost use Rattle.std.specs.Prelude.{◌<◌, ◌≤◌, All, OnOk, OnErr};
@@ -7,9 +8,9 @@ ghost use Rattle.shr_walk.specs.Acting.{IsSame};
 ghost use Rattle.shr_walk.specs.Looping.{AllMade, FirstMade, jobs_on};
 ghost use Rattle.shr_walk.specs.Rounds.{due_in};
 
-use shr_base::memory::Memory;
 use crate::balance::{is_short, walk_one};
 use crate::worker::Worker;
+use shr_base::memory::Memory;
 use std::sync::Wait;
 
 // Walks these groups on a node, in order.

@@ -1,3 +1,4 @@
+// SPDX-License-Identifier: GPL-2.0-only
 //! A worker as one value.
 
 ghost use Rattle.std.specs.Prelude.{◌≡◌, ◌<◌, ◌≤◌, ◌*◌, ◌^◌, IfOk, OnOk, length};
@@ -29,7 +30,7 @@ use std::marker::Model;
 use std::sync::Wait;
 
 /// What one thread works with: what all share, its own seats at rest, the command that it runs, and
-/// the handle to wait by. Our own.
+/// the handle to wait by.
 #[derive(Drop)]
 pub struct Worker<'a, R: Wait> {
     pub rt: &'a R,
@@ -80,7 +81,7 @@ impl<'a, R: Wait> Worker<'a, R> {
         self.shared.script.nodes
     }
 
-    /// Whether the worker's charges or uncharges are used up, with their numbers. Our own.
+    /// Whether the worker's charges or uncharges are used up, with their numbers.
     pub fn spent(&self) -> Option<Spent>
         ensures { result ≡ spent_by self.now.state.uses }
     {
@@ -116,7 +117,7 @@ impl<'a, R: Wait> Worker<'a, R> {
         })
     }
 
-    /// Makes room to note so many operations more. On `Memory` nothing changes. Our own.
+    /// Makes room to note so many operations more. On `Memory` nothing changes.
     pub fn reserve_uses(&mut self, more: usize) -> Result<(), Memory>
         ensures room { OnOk result (more ≤ self.new.use_room) }
         ensures rest { self.new ≡ record self.old { use_room = self.new.use_room } }
@@ -124,7 +125,7 @@ impl<'a, R: Wait> Worker<'a, R> {
         self.seats.cache.uses.reserve(more)
     }
 
-    /// Makes room to note so many carries more. On `Memory` nothing changes. Our own.
+    /// Makes room to note so many carries more. On `Memory` nothing changes.
     pub fn reserve_carries(&mut self, more: usize) -> Result<(), Memory>
         ensures room { OnOk result (more ≤ self.new.carry_room) }
         ensures rest { self.new ≡ record self.old { carry_room = self.new.carry_room } }

@@ -1,3 +1,4 @@
+-- SPDX-License-Identifier: GPL-2.0-only
 -- What a fake keeps of a seat.
 use Rattle.shr_base.specs.declared.places.Place.{Place}
 use Rattle.shr_core.specs.Gained.{OwesNoMore}

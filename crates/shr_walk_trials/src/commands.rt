@@ -1,3 +1,4 @@
+// SPDX-License-Identifier: GPL-2.0-only
 //! A tenant's calls on cache 0 and node 0, made where there is such a group.
 
 use shr_base::places::Target;
@@ -7,7 +8,7 @@ use shr_cache::{dels, gets, pins, puts};
 use shr_walk::worker::Worker;
 use std::sync::Wait;
 
-/// What a tenant is asked to do. Our own.
+/// What a tenant is asked to do.
 #[derive(Clone, Copy)]
 pub(crate) enum Command {
     Put,
@@ -18,7 +19,7 @@ pub(crate) enum Command {
 }
 
 /// What is answered where no object is found or made: a word, and the entry of a journal or the
-/// charges of the worker. Our own.
+/// charges of the worker.
 pub(crate) type Heard = (&'static str, u32);
 
 // What an answer says.
@@ -36,7 +37,7 @@ fn heard(answer: Option<Answered>) -> Heard {
     }
 }
 
-/// One call. The value of an object that is put is "v". Our own.
+/// One call. The value of an object that is put is "v".
 pub(crate) fn ask<R: Wait>(
     worker: &mut Worker<'_, R>,
     asked: Command,
@@ -64,7 +65,7 @@ pub(crate) fn ask<R: Wait>(
     }
 }
 
-/// Gives the commands of these rows on a group, and tells the first that heard something else. Our own.
+/// Gives the commands of these rows on a group, and tells the first that heard something else.
 pub(crate) fn first_unlike<R: Wait>(
     worker: &mut Worker<'_, R>,
     group: u16,

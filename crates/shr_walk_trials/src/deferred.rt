@@ -1,3 +1,4 @@
+// SPDX-License-Identifier: GPL-2.0-only
 //! Two threads at the deferred word of one place.
 
 ghost use Rattle.std.specs.Prelude.{◌≡◌};

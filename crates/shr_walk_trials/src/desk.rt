@@ -1,3 +1,4 @@
+// SPDX-License-Identifier: GPL-2.0-only
 //! The tables of a script, seats at them, and calls that a seat makes where it may.
 
 pub(crate) mod charges;

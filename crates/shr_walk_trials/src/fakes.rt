@@ -1,3 +1,4 @@
+// SPDX-License-Identifier: GPL-2.0-only
 //! A shrinker whose list gets an object behind its first count, and whose scans find no memory.
 
 ghost use Rattle.std.specs.Prelude.{◌≡◌, ◌<◌, ◌≤◌, [], Some};
@@ -21,8 +22,7 @@ use shr_pass::shrinker::Shrinker;
 use shr_walk::seats::{CacheSeat, Shared};
 use std::sync::Wait;
 
-/// The list of a place. Where `late` is true, an object is added to it behind the next count. Our
-/// own.
+/// The list of a place. Where `late` is true, an object is added to it behind the next count.
 #[derive(Drop)]
 pub(crate) struct Fake<'a, R: Wait> {
     pub(crate) rt: &'a R,

@@ -1,3 +1,4 @@
+// SPDX-License-Identifier: GPL-2.0-only
 //! Passes by the formulas alone: the worked ones, and the last values.
 
 use shr_arith::formulas::{next_ask, next_deferred, plan};

@@ -1,3 +1,4 @@
+// SPDX-License-Identifier: GPL-2.0-only
 //! Passes, walks, a tenant's commands and offlining by calls: what no script can show.
 #![tactic(auto)]
 

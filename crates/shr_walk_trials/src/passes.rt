@@ -1,3 +1,4 @@
+// SPDX-License-Identifier: GPL-2.0-only
 //! Passes whose scans end as no script makes them, over a fake that counts one number and answers its scans by a plan.
 
 ghost use Rattle.std.specs.Prelude.{◌≡◌, None};

@@ -1,3 +1,4 @@
+// SPDX-License-Identifier: GPL-2.0-only
 //! What each command is answered at a group that can't end.
 
 use crate::commands::{Command, Heard, first_unlike};

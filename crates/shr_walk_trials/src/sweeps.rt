@@ -1,3 +1,4 @@
+// SPDX-License-Identifier: GPL-2.0-only
 //! What helpers of a sweep come to, one after another.
 
 use crate::commands::{Command, ask};

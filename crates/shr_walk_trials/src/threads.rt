@@ -1,3 +1,4 @@
+// SPDX-License-Identifier: GPL-2.0-only
 //! Threads at the lists of a cache. Each test holds for every schedule.
 
 ghost use Rattle.std.specs.Prelude.{IfOk};

@@ -1,3 +1,4 @@
+// SPDX-License-Identifier: GPL-2.0-only
 //! Visits of a fake shrinker.
 
 use crate::desk::holding::{hold, rest};

@@ -1,3 +1,4 @@
+// SPDX-License-Identifier: GPL-2.0-only
 //! What a worker comes to whose charges are used up, and what a list whose journal is full keeps.
 
 use crate::commands::{Command, Heard, ask, first_unlike};

@@ -1,3 +1,4 @@
+-- SPDX-License-Identifier: GPL-2.0-only
 -- A word that was read is the one spelling of its item, and what is spelled so is read again.
 use Rattle.shr_words.proofs.Common.{◌≡◌, ℕ, zero, suc, ◌+◌, ◌≤◌, ◌<◌, Bool, true, false, cond, ◌&&◌, ◌||◌, List, [], ◌∷◌, ◌++◌, length, get_or, Option, Some, None, Result, Ok, Err, refl, sym, ap, subst, ◌∙◌, arith, slice_index_or, ◌==◌, nat_le, nat_lt, option_map, bytes_eq, list_all, digits_value, nat_tests, is_visible, is_name_byte, Code, differs, is_part_of, all_parts, Word, Test, PathTest, NameTest, KeyTest, Number, Plain, Valued, Listed, Marked, Item, N, W, ◌>>=◌, is_digit, found_or, number_said, and_true, cut_part, same_byte, rules, eq-eqb, lit<, codes, decimal, is_value, is_part, joined_cut, cut_first}
 use Rattle.std.proofs.lemmas.Slice.Eq.{bytes_eq-Decides}

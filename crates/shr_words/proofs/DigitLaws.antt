@@ -1,3 +1,4 @@
+-- SPDX-License-Identifier: GPL-2.0-only
 -- The digits of a number.
 use Rattle.shr_words.proofs.Common.{◌≡◌, ℕ, zero, suc, ◌+◌, ◌-◌, ◌<◌, ◌≤◌, Bool, true, false, ◌&&◌, cond, List, [], ◌∷◌, length, take, drop, get_or, Ok, refl, arith, nat_lt, take_rest, min, nat_le, ◌==◌, list_all, digits_value, nat_tests, Word, N, Number, is_digit, and_true, ◌*◌, IsDigit}
 use Rattle.std.specs.Char.{digit_value}

@@ -1,3 +1,4 @@
+-- SPDX-License-Identifier: GPL-2.0-only
 -- An item that a word of a class says, where the class is tested as the word is found.
 use Rattle.shr_words.proofs.Common.{◌≡◌, ℕ, ◌-◌, ◌≤◌, Bool, true, false, cond, ◌&&◌, List, [], ◌∷◌, length, take, drop, get_or, Ok, Err, refl, arith, take_rest, slice_index_or, ◌==◌, Result, list_all, Code, BadText, is_visible, is_name_byte, is_between, same_byte, ◌>>=◌, Word, Item, N, W, Plain, NameTest, KeyTest, Valued, Listed, Marked, Test, found_or, place_of, number_said, taken_of, UnknownCache}
 use Rattle.shr_words.specs.WordReading.{taken, item_at, text_of, value_of, listed_of}

@@ -1,3 +1,4 @@
+-- SPDX-License-Identifier: GPL-2.0-only
 -- A set of words in order is their list.
 use Rattle.shr_words.proofs.Common.{◌≡◌, ℕ, suc, ◌+◌, Bool, true, false, cond, List, [], ◌∷◌, ◌++◌, length, map, Option, Some, None, refl, ap, arith, Bor, bytes_eq, option_map, nat_lt, nat_tests, Word, position, position_or_len, list_any, map_push}
 use Rattle.shr_words.specs.Classes.{place_of}

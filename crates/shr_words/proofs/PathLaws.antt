@@ -1,3 +1,4 @@
+-- SPDX-License-Identifier: GPL-2.0-only
 -- A word that is found among paths is one, and a path more keeps all of them paths.
 use Rattle.shr_words.proofs.Common.{◌≡◌, ℕ, ◌+◌, Bool, true, false, List, [], ◌∷◌, ◌++◌, Option, Some, None, option_map, refl, ap, ◌∙◌, bytes_eq, list_all, and_true, Word}
 use Rattle.std.specs.Prelude.{IfSome}

@@ -1,3 +1,4 @@
+-- SPDX-License-Identifier: GPL-2.0-only
 -- A word that is cut behind its bytes of a class is the next word of a line.
 use Rattle.shr_words.proofs.Common.{◌≡◌, ℕ, suc, ◌+◌, Bool, true, false, cond, List, [], ◌∷◌, length, Some, Result, Ok, Err, refl, sym, ap, ◌∙◌, arith, ◌==◌, prefix_len, list_all, nat_tests, Code, BadText, same_byte, Word, taken_of, cut_at, slice_index}
 use Rattle.shr_model.specs.Pieces.{Parts, onto, cut, pieces}

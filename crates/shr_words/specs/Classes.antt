@@ -1,3 +1,4 @@
+-- SPDX-License-Identifier: GPL-2.0-only
 -- The classes of words, and lines as lists of them.
 use Rattle.std.specs.Prelude.{◌≡◌, ℕ, ◌+◌, ◌<◌, ◌≤◌, Bool, true, if◌then◌else◌, List, [], ◌∷◌, get_or, slice_index_or, false, bytes_eq, codes, decimal, Option, Some, None, Result, Ok, Err, option_map}
 use Rattle.shr_model.specs.Words.{is_key, is_value, is_name}

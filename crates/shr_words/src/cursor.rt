@@ -1,3 +1,4 @@
+// SPDX-License-Identifier: GPL-2.0-only
 //! The parts of bytes between single separators, one after the other.
 
 ghost use Rattle.std.specs.Prelude.{◌≡◌, ◌≤◌, length, option_map};
@@ -19,7 +20,7 @@ fn part_len(bytes: &[u8], separator: u8) -> usize
 }
 
 #[tactic(auto, unfolding(shr_model::specs::PieceParts::left), using(shr_model::proofs::PiecesLaws::next_more, shr_model::proofs::PiecesLaws::next_last))]
-/// The next part, and what is left behind it: nothing, where no separator ends the part. Our own.
+/// The next part, and what is left behind it: nothing, where no separator ends the part.
 #[inline]
 pub fn next(rest: Option<&[u8]>, separator: u8) -> Option<(&[u8], Option<&[u8]>)>
     ensures { option_map (λ x. (x.0.now, left separator (option_map (λ r. r.now) x.1))) result

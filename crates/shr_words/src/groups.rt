@@ -1,3 +1,4 @@
+// SPDX-License-Identifier: GPL-2.0-only
 //! Paths that were declared, each with its number.
 
 ghost use Rattle.std.specs.Prelude.{◌≡◌, ◌<◌, ◌++◌, ◌∷◌, [], None, OnOk, OnErr, IfSome, length, true};
@@ -10,7 +11,7 @@ use std::alloc::Global;
 use std::marker::Model;
 
 /// At most 256 paths of the input, in the order of their declarations, which contracts see as their
-/// list. A word that is found among them needs no look at its parts. Our own.
+/// list. A word that is found among them needs no look at its parts.
 #[derive(Drop)]
 pub struct Paths<'a> {
     paths: Names<'a>,
@@ -29,7 +30,7 @@ impl<'a> Model for Paths<'a> {
 }
 
 impl<'a> Paths<'a> {
-    /// No path yet. Our own.
+    /// No path yet.
     pub fn new(alloc: Global) -> Paths<'a>
         ensures { result ≡ [] }
     {
@@ -38,7 +39,7 @@ impl<'a> Paths<'a> {
         }
     }
 
-    /// The number of a path; a word that has one is a path. Our own.
+    /// The number of a path; a word that has one is a path.
     #[inline(always)]
     pub fn place(&self, word: &[u8]) -> Option<u16>
         ensures place { result ≡ place_of word.now self.now }
@@ -48,14 +49,14 @@ impl<'a> Paths<'a> {
         self.paths.place(word)
     }
 
-    /// How many paths were declared. Our own.
+    /// How many paths were declared.
     pub fn len(&self) -> usize
         ensures { result ≡ length self.now }
     {
         self.paths.len()
     }
 
-    /// Declares a path that isn't there. Our own.
+    /// Declares a path that isn't there.
     #[tactic(auto, using(crate::proofs::PathLaws::one_path_more))]
     pub fn declare(&mut self, path: &'a [u8]) -> Result<(), Memory>
         requires path { is_path path.now ≡ true }

@@ -1,3 +1,4 @@
+// SPDX-License-Identifier: GPL-2.0-only
 //! The words of a script's line, and their classes.
 #![tactic(auto)]
 

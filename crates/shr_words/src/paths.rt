@@ -1,3 +1,4 @@
+// SPDX-License-Identifier: GPL-2.0-only
 //! Paths of groups.
 
 ghost use Rattle.std.specs.Prelude.{◌≡◌, ◌≤◌, length, reverse};
@@ -24,7 +25,7 @@ fn all_parts(bytes: &[u8]) -> bool
 }
 
 /// Whether a word is `/`, or one or more parts, each `/` and 1 to 32 bytes of `a` to `z`, `0` to
-/// `9` and `_`. Our own.
+/// `9` and `_`.
 #[tactic(auto, unfolding(shr_model::specs::Paths::is_path))]
 pub fn is_path(word: &[u8]) -> bool
     ensures { result ≡ is_path word.now }
@@ -43,7 +44,7 @@ fn last_part_len(path: &[u8]) -> usize
     path.iter().rev().take_while(|b| **b != b'/').count()
 }
 
-/// The path without its last part, or `/` where that is nothing. Our own.
+/// The path without its last part, or `/` where that is nothing.
 #[tactic(auto, unfolding(shr_model::specs::Paths::parent_path))]
 pub fn parent_path(path: &[u8]) -> &[u8]
     ensures { result.now ≡ parent_path path.now }

@@ -1,3 +1,4 @@
+// SPDX-License-Identifier: GPL-2.0-only
 //! How many bytes are of a class, from the first on. Where there are so many, eight are looked at
 //! together, and sixteen where a space alone ends them, as it ends a long path.
 
@@ -77,7 +78,7 @@ fn few_name_bytes(bytes: &[u8]) -> usize
     bytes.iter().take_while(|b| is_name_byte(**b)).count()
 }
 
-/// How many bytes from 33 to 126 there are before the first other. Our own.
+/// How many bytes from 33 to 126 there are before the first other.
 #[inline(always)]
 pub(crate) fn visible_len(bytes: &[u8]) -> usize
     ensures front { result ≡ prefix_len is_visible bytes.now }
@@ -99,7 +100,7 @@ pub(crate) fn visible_len(bytes: &[u8]) -> usize
     last + visible_run(bytes, last)
 }
 
-/// How many bytes of names there are before the first other. Our own.
+/// How many bytes of names there are before the first other.
 #[inline(always)]
 pub(crate) fn name_len(bytes: &[u8]) -> usize
     ensures front { result ≡ prefix_len is_name_byte bytes.now }
@@ -121,7 +122,7 @@ pub(crate) fn name_len(bytes: &[u8]) -> usize
     last + name_run(bytes, last)
 }
 
-/// How many bytes there are before the first space. Our own.
+/// How many bytes there are before the first space.
 #[inline(always)]
 pub(crate) fn word_len(bytes: &[u8]) -> usize
     ensures front { result ≡ prefix_len (differs 32) bytes.now }

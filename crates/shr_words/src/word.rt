@@ -1,3 +1,4 @@
+// SPDX-License-Identifier: GPL-2.0-only
 //! The next word of a line, of each class.
 
 ghost use Rattle.std.specs.Prelude.{◌≡◌, true, false, ◌+◌, ◌≤◌, ◌<◌, length, slice_index_or, min, IfOk, IfSome, if◌then◌else◌};
@@ -20,7 +21,7 @@ use crate::runs::{name_len, visible_len};
 use shr_base::objects::Policy;
 use shr_base::scripts::Code;
 
-/// The next word, and what is left of the line behind it. Our own.
+/// The next word, and what is left of the line behind it.
 #[tactic(auto, unfolding(crate::specs::WordReading::taken))]
 pub fn word(rest: Option<&[u8]>) -> Result<(&[u8], Option<&[u8]>), Code>
     ensures { Gives (λ x. (x.0.now, words_left x.1)) result (taken (words_left rest.entry)) }
@@ -71,7 +72,7 @@ fn name_word(rest: Option<&[u8]>) -> Result<(&[u8], Option<&[u8]>), Code>
     }
 }
 
-/// A line ends behind its last word. Our own.
+/// A line ends behind its last word.
 #[tactic(auto, unfolding(crate::specs::WordReading::ended))]
 pub fn end(rest: Option<&[u8]>) -> Result<(), Code>
     ensures { Gives (λ x. x) result (ended (words_left rest.entry)) }
@@ -133,7 +134,7 @@ fn digit(bytes: &[u8]) -> Option<(u32, &[u8])>
     Some(((bytes[0] - b'0') as u32, &bytes[2..]))
 }
 
-/// A number from low to below high. Our own.
+/// A number from low to below high.
 #[tactic(auto, unfolding(crate::specs::WordReading::item_at))]
 #[inline(always)]
 pub fn number(rest: Option<&[u8]>, low: u32, high: u32) -> Result<(u32, Option<&[u8]>), Code>
@@ -153,7 +154,7 @@ pub fn number(rest: Option<&[u8]>, low: u32, high: u32) -> Result<(u32, Option<&
     Ok((n, rest))
 }
 
-/// `max`, or a number to a million. Our own.
+/// `max`, or a number to a million.
 #[tactic(auto, unfolding(crate::specs::WordReading::item_at, crate::specs::WordReading::limit_spelled))]
 pub fn limit(rest: Option<&[u8]>) -> Result<(Option<u32>, Option<&[u8]>), Code>
     ensures { Gives (λ x. (L x.0, words_left x.1)) result (item_at Limit (words_left rest.entry)) }
@@ -166,7 +167,7 @@ pub fn limit(rest: Option<&[u8]>) -> Result<(Option<u32>, Option<&[u8]>), Code>
     Ok((Some(n), rest))
 }
 
-/// A path. Our own.
+/// A path.
 #[tactic(auto, unfolding(crate::specs::WordReading::item_at, crate::specs::WordReading::text_of, crate::specs::Classes::passes))]
 pub fn path(rest: Option<&[u8]>) -> Result<(&[u8], Option<&[u8]>), Code>
     ensures reads { Gives (λ x. (W x.0.now, words_left x.1)) result (item_at (Plain PathTest)
@@ -181,7 +182,7 @@ pub fn path(rest: Option<&[u8]>) -> Result<(&[u8], Option<&[u8]>), Code>
     }
 }
 
-/// A name. Our own.
+/// A name.
 #[tactic(auto, using(crate::proofs::ItemLaws::name_item))]
 pub fn name(rest: Option<&[u8]>) -> Result<(&[u8], Option<&[u8]>), Code>
     ensures { Gives (λ x. (W x.0.now, words_left x.1)) result (item_at (Plain NameTest)
@@ -195,7 +196,7 @@ pub fn name(rest: Option<&[u8]>) -> Result<(&[u8], Option<&[u8]>), Code>
     }
 }
 
-/// A key. Our own.
+/// A key.
 #[tactic(auto, using(crate::proofs::ItemLaws::key_item))]
 pub fn key(rest: Option<&[u8]>) -> Result<(&[u8], Option<&[u8]>), Code>
     ensures { Gives (λ x. (W x.0.now, words_left x.1)) result (item_at (Plain KeyTest)
@@ -209,7 +210,7 @@ pub fn key(rest: Option<&[u8]>) -> Result<(&[u8], Option<&[u8]>), Code>
     }
 }
 
-/// A value, without its `=`. Our own.
+/// A value, without its `=`.
 #[tactic(auto, using(crate::proofs::ItemLaws::text_item, crate::proofs::ItemLaws::text_value))]
 #[inline(always)]
 pub fn text(rest: Option<&[u8]>) -> Result<(&[u8], Option<&[u8]>), Code>
@@ -241,7 +242,7 @@ fn no_group(word: &[u8]) -> Code
     }
 }
 
-/// The number of a group that was declared. Our own.
+/// The number of a group that was declared.
 #[tactic(auto, unfolding(crate::specs::WordReading::item_at, crate::specs::WordReading::listed_of, crate::specs::Classes::passes))]
 #[inline(always)]
 pub fn group<'a>(rest: Option<&'a [u8]>, groups: &Paths) -> Result<(u16, Option<&'a [u8]>), Code>
@@ -257,7 +258,7 @@ pub fn group<'a>(rest: Option<&'a [u8]>, groups: &Paths) -> Result<(u16, Option<
     }
 }
 
-/// The number of a cache that was declared. Our own.
+/// The number of a cache that was declared.
 #[tactic(auto, using(crate::proofs::ItemLaws::cache_item))]
 #[inline(always)]
 pub fn cache<'a>(rest: Option<&'a [u8]>, caches: &Names) -> Result<(u16, Option<&'a [u8]>), Code>
@@ -275,7 +276,7 @@ pub fn cache<'a>(rest: Option<&'a [u8]>, caches: &Names) -> Result<(u16, Option<
     }
 }
 
-/// Whether a place is marked; one behind the last mark isn't. Our own.
+/// Whether a place is marked; one behind the last mark isn't.
 pub fn is_marked(marks: &[bool], place: u16) -> bool
     ensures { result ≡ slice_index_or marks.now place false }
 {
@@ -285,7 +286,7 @@ pub fn is_marked(marks: &[bool], place: u16) -> bool
     }
 }
 
-/// The number of a group that was declared and is marked. Our own.
+/// The number of a group that was declared and is marked.
 #[tactic(auto, using(crate::proofs::ItemLaws::marked_is))]
 pub fn marked_group<'a>(
     rest: Option<&'a [u8]>,
@@ -304,7 +305,7 @@ pub fn marked_group<'a>(
     }
 }
 
-/// `any`, or `fs`. Our own.
+/// `any`, or `fs`.
 #[tactic(auto, unfolding(crate::specs::WordReading::item_at, crate::specs::WordReading::chosen_of, crate::specs::Classes::place_of))]
 pub fn cache_kind(rest: Option<&[u8]>) -> Result<(bool, Option<&[u8]>), Code>
     ensures { Gives (λ x. (N (flag_place x.0), words_left x.1)) result (item_at (Chosen Kinds)
@@ -320,7 +321,7 @@ pub fn cache_kind(rest: Option<&[u8]>) -> Result<(bool, Option<&[u8]>), Code>
     }
 }
 
-/// `off`, or `on`. Our own.
+/// `off`, or `on`.
 #[tactic(auto, unfolding(crate::specs::WordReading::item_at, crate::specs::WordReading::chosen_of, crate::specs::Classes::place_of))]
 pub fn at_start(rest: Option<&[u8]>) -> Result<(bool, Option<&[u8]>), Code>
     ensures { Gives (λ x. (N (flag_place x.0), words_left x.1)) result (item_at (Chosen Starts)
@@ -336,7 +337,7 @@ pub fn at_start(rest: Option<&[u8]>) -> Result<(bool, Option<&[u8]>), Code>
     }
 }
 
-/// `plain`, `clock` or `halt`. Our own.
+/// `plain`, `clock` or `halt`.
 #[tactic(auto, unfolding(crate::specs::WordReading::item_at, crate::specs::WordReading::chosen_of, crate::specs::Classes::place_of))]
 pub fn policy(rest: Option<&[u8]>) -> Result<(Policy, Option<&[u8]>), Code>
     ensures { Gives (λ x. (N (policy_place x.0), words_left x.1)) result (item_at (Chosen Policies)
@@ -354,7 +355,7 @@ pub fn policy(rest: Option<&[u8]>) -> Result<(Policy, Option<&[u8]>), Code>
     }
 }
 
-/// `fs`, or `nofs`. Our own.
+/// `fs`, or `nofs`.
 #[tactic(auto, unfolding(crate::specs::WordReading::item_at, crate::specs::WordReading::chosen_of, crate::specs::Classes::place_of))]
 pub fn walk_kind(rest: Option<&[u8]>) -> Result<(bool, Option<&[u8]>), Code>
     ensures { Gives (λ x. (N (flag_place x.0), words_left x.1)) result (item_at (Chosen Walks)
@@ -370,7 +371,7 @@ pub fn walk_kind(rest: Option<&[u8]>) -> Result<(bool, Option<&[u8]>), Code>
     }
 }
 
-/// `nodes`, or `flat`. Our own.
+/// `nodes`, or `flat`.
 #[tactic(auto, unfolding(crate::specs::WordReading::item_at, crate::specs::WordReading::chosen_of, crate::specs::Classes::place_of))]
 pub fn pool_kind(rest: Option<&[u8]>) -> Result<(bool, Option<&[u8]>), Code>
     ensures { Gives (λ x. (N (flag_place x.0), words_left x.1)) result (item_at (Chosen PoolKinds)

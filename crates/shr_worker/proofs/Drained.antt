@@ -1,3 +1,4 @@
+-- SPDX-License-Identifier: GPL-2.0-only
 -- The objects that an unregistering drained: their births, and how many they are at most.
 use Rattle.shr_worker.proofs.Common.{◌≡◌, ℕ, zero, suc, ◌<◌, ◌≤◌, List, [], ◌∷◌, length, length-append, refl, sym, subst, arith, Object, View, Shape, groups_in, ◌*◌, get_or, AllPairs}
 use mathlib.Core.Option.{some, some-injective, some-ne-none}

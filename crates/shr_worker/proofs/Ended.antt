@@ -1,3 +1,4 @@
+-- SPDX-License-Identifier: GPL-2.0-only
 -- What an unregistering drained, and what was uncharged where it drained nothing.
 use Rattle.shr_worker.proofs.Common.{◌≡◌, ℕ, ◌≤◌, List, [], refl, sym, subst, arith, None, Object, Serial, View, Shape, groups_in, WorkerState}
 use Rattle.std.proofs.lemmas.List.{append-nil}

@@ -1,3 +1,4 @@
+-- SPDX-License-Identifier: GPL-2.0-only
 -- Known values of how answers are told, and of when the pools are walked.
 use Rattle.shr_worker.proofs.Common.{◌≡◌, [], ◌∷◌, List, None, true, false, length, length-append, refl, sym, ap, subst, arith, Object, Place, Serial, Answered, Isolate, Release, Script, PlainState, listed_commands, Isolation, Shared, WorkerState, WalksIf, unfound, release_reply, grab_reply, not, ◌&&◌, ◌==◌, Shrink, Balance, PlainGives, WalksPools, is_due, is_walked, walk_reply, offline_reply, make_reply, register_reply, unregister_reply, objects_drained}
 use Rattle.shr_base.specs.declared.scripts.PoolDecl.{PoolDecl}

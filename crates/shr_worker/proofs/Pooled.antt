@@ -1,3 +1,4 @@
+-- SPDX-License-Identifier: GPL-2.0-only
 -- The tables of pools that were made for a script.
 use Rattle.shr_worker.proofs.Common.{ℕ, ◌<◌, ◌≤◌, Bool, true, false, List, length, ap, subst, ◌∙◌, arith, Isolate, Release, Script, Setting, settings_of, pool_sizes, IsCommandWithin, Sizes, Grab, ArePoolsOf, setting_by, IsPoolOf, IfServed, IsIsolationWithin, IsPoolCommandWithin, Content}
 use Rattle.std.proofs.lemmas.List.{length-map}

@@ -1,3 +1,4 @@
+-- SPDX-License-Identifier: GPL-2.0-only
 -- A worker is at rest after a call on registrations: its seat holds nothing, and owes nothing that it didn't owe before.
 use Rattle.shr_worker.proofs.Common.{◌≡◌, ◌∙◌, ℕ, List, subst, Serial, View, view_of, shape_of, Shared, IsFit}
 use Rattle.shr_base.specs.declared.journals.PoolEntry.{PoolEntry}

@@ -1,3 +1,4 @@
+-- SPDX-License-Identifier: GPL-2.0-only
 -- What a command of a valid script names is there.
 use Rattle.shr_worker.proofs.Common.{◌≡◌, ℕ, zero, suc, ◌≤◌, List, [], ◌∷◌, length, sym, ap, subst, ◌∙◌, arith, Some, slice_get, Command, IsCommandWithin, content_of, listed_commands, worker_commands, Shared, map, Option, sum_by}
 use Rattle.std.specs.List.{AllByRecursion}

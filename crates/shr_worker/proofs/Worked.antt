@@ -1,3 +1,4 @@
+-- SPDX-License-Identifier: GPL-2.0-only
 -- One command more of a worker's run.
 use Rattle.shr_worker.proofs.Common.{◌≡◌, ℕ, suc, ◌≤◌, inr, List, [], ◌∷◌, ◌++◌, length, length-append, refl, sym, ap, subst, ◌∙◌, arith, Some, slice_get, Answered, Command, Shared, CrewState, DeedGives, worker_commands, command_serial, IsWorkOf, inl}
 use Rattle.std.proofs.lemmas.Option.{slice_get_within}

@@ -1,3 +1,4 @@
+-- SPDX-License-Identifier: GPL-2.0-only
 -- A worker's commands, one after another.
 use Rattle.std.specs.Prelude.{◌≡◌, ℕ, suc, List, [], length, slice_get, Option, Some, None}
 use Rattle.shr_base.specs.declared.places.Serial.{Serial}

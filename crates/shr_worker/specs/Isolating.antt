@@ -1,3 +1,4 @@
+-- SPDX-License-Identifier: GPL-2.0-only
 -- What each command records of isolations.
 use Rattle.std.specs.Prelude.{◌≡◌, List}
 use Rattle.shr_base.specs.declared.places.Serial.{Serial}

@@ -1,3 +1,4 @@
+-- SPDX-License-Identifier: GPL-2.0-only
 -- What the answers of calls are as replies.
 use Rattle.std.specs.Prelude.{List, [], length, None}
 use Rattle.shr_base.specs.declared.objects.Object.{Object}

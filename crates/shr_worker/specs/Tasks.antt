@@ -1,3 +1,4 @@
+-- SPDX-License-Identifier: GPL-2.0-only
 -- What a worker is given, and what it leaves.
 use Rattle.std.specs.Prelude.{◌≡◌, ◌<◌, [], length}
 use Rattle.shr_plain.specs.Opening.{ArePoolsOf}

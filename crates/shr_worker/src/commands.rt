@@ -1,3 +1,4 @@
+// SPDX-License-Identifier: GPL-2.0-only
 //! One command of a worker.
 
 ghost use Rattle.std.specs.Prelude.{◌≡◌, ◌+◌, ◌<◌, ◌≤◌, ◌^◌, IfOk, length};
@@ -47,7 +48,7 @@ fn run_on<R: Wait>(worker: &mut Worker<'_, R>, at: Target, key: &Text, act: Act)
     }
 }
 
-/// Runs a command, and after a walk of the root the walk of the pools that is due. Our own.
+/// Runs a command, and after a walk of the root the walk of the pools that is due.
 ///
 /// `Memory` comes if there was no room to note an uncharge of a cache that was unregistered, or
 /// for the record of a walk of the pools; every other want of memory is an answer.

@@ -1,3 +1,4 @@
+// SPDX-License-Identifier: GPL-2.0-only
 //! One worker's run: an answer for each of its commands, in order.
 #![tactic(auto)]
 

@@ -1,3 +1,4 @@
+// SPDX-License-Identifier: GPL-2.0-only
 //! The command that makes a group.
 
 ghost use Rattle.std.specs.Prelude.{◌≡◌, true};

@@ -1,3 +1,4 @@
+// SPDX-License-Identifier: GPL-2.0-only
 //! The commands on pools of units, and the walk of the pools that comes after one of the root.
 
 ghost use Rattle.std.specs.Prelude.{◌≡◌, ◌+◌, ◌<◌, ◌≤◌, ◌^◌, ◌==◌, ◌&&◌, OnErr, OnOk, length};
@@ -33,7 +34,7 @@ fn units_place(script: &Script, pool: u8, node: u8) -> Place
 
 /// Releases units to a pool.
 ///
-/// It waits for the pool's room. `Full`, `Worn` and `Memory` leave the pool as it was. Our own.
+/// It waits for the pool's room. `Full`, `Worn` and `Memory` leave the pool as it was.
 pub fn release<R: Wait>(
     worker: &Worker<'_, R>,
     plain: &mut PlainSeat<'_>,
@@ -54,7 +55,7 @@ pub fn release<R: Wait>(
 
 /// Grabs a unit of a pool.
 ///
-/// It waits for the pool's room. `Worn` and `Memory` leave the pool as it was. Our own.
+/// It waits for the pool's room. `Worn` and `Memory` leave the pool as it was.
 pub fn grab<R: Wait>(
     worker: &Worker<'_, R>,
     plain: &mut PlainSeat<'_>,
@@ -80,7 +81,7 @@ fn is_walked(reply: &Reply) -> bool
 }
 
 /// Whether a walk of the pools is due after a walk of the root that was answered so: if there was
-/// memory, in a script with a pool. Our own.
+/// memory, in a script with a pool.
 pub(crate) fn is_due(script: &Script, reply: &Reply) -> bool
     ensures { result ≡ is_due script.now reply.now }
 {
@@ -88,7 +89,7 @@ pub(crate) fn is_due(script: &Script, reply: &Reply) -> bool
 }
 
 /// Whether a walk of the pools is due after a walk of this group that was answered so: if it is the
-/// root. Our own.
+/// root.
 pub(crate) fn is_due_after(script: &Script, group: u16, reply: &Reply) -> bool
     ensures { result ≡ ((group == 0) && is_due script.now reply.now) }
 {

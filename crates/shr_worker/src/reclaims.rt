@@ -1,3 +1,4 @@
+// SPDX-License-Identifier: GPL-2.0-only
 //! The commands that reclaim: a walk, a balance, and taking a group offline.
 
 ghost use Rattle.std.specs.Prelude.{◌<◌, ◌≤◌};

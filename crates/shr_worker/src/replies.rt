@@ -1,3 +1,4 @@
+// SPDX-License-Identifier: GPL-2.0-only
 //! What the answers of calls are as replies.
 
 ghost use Rattle.std.specs.Prelude.{◌≡◌, ◌<◌};
@@ -11,7 +12,7 @@ use shr_offline::answers::OfflineAnswer;
 use shr_plain::answers::{GrabAnswer, ReleaseAnswer};
 use shr_registry::answers::RegisterAnswer;
 
-/// What a walk answers, as a reply. Our own.
+/// What a walk answers, as a reply.
 pub(crate) fn walk_reply(answer: WalkAnswer) -> Reply
     ensures { result ≡ walk_reply answer }
 {
@@ -22,7 +23,7 @@ pub(crate) fn walk_reply(answer: WalkAnswer) -> Reply
     }
 }
 
-/// What taking a group offline answers, as a reply. Our own.
+/// What taking a group offline answers, as a reply.
 pub(crate) fn offline_reply(answer: OfflineAnswer) -> Reply
     ensures { result ≡ offline_reply answer }
 {
@@ -45,7 +46,7 @@ pub(crate) fn offline_reply(answer: OfflineAnswer) -> Reply
     }
 }
 
-/// What making a group answers, as a reply. Our own.
+/// What making a group answers, as a reply.
 pub(crate) fn make_reply(answer: MakeAnswer) -> Reply
     ensures { result ≡ make_reply answer }
 {
@@ -58,7 +59,7 @@ pub(crate) fn make_reply(answer: MakeAnswer) -> Reply
     }
 }
 
-/// What a registration answers, as a reply. Our own.
+/// What a registration answers, as a reply.
 pub(crate) fn register_reply(answer: RegisterAnswer) -> Reply
     ensures { result ≡ register_reply answer }
 {
@@ -70,7 +71,7 @@ pub(crate) fn register_reply(answer: RegisterAnswer) -> Reply
     }
 }
 
-/// What releasing units at a place answers, as a reply. Our own.
+/// What releasing units at a place answers, as a reply.
 pub(crate) fn release_reply(place: Place, answer: ReleaseAnswer) -> Reply
     requires { place.id < 256 }
     ensures { result ≡ release_reply place answer }
@@ -90,7 +91,7 @@ pub(crate) fn release_reply(place: Place, answer: ReleaseAnswer) -> Reply
     }
 }
 
-/// What grabbing a unit at a place answers, as a reply. Our own.
+/// What grabbing a unit at a place answers, as a reply.
 pub(crate) fn grab_reply(place: Place, answer: GrabAnswer) -> Reply
     requires { place.id < 256 }
     ensures { result ≡ grab_reply place answer }

@@ -1,3 +1,4 @@
+// SPDX-License-Identifier: GPL-2.0-only
 //! The run of a worker.
 
 ghost use Rattle.std.specs.Prelude.{◌≡◌, ◌+◌, ◌<◌, ◌≤◌, ◌^◌, [], IfOk, IsTrue, OnOk, length, slice_get, Some};
@@ -100,7 +101,7 @@ fn run_commands<R: Wait, G: Gate>(
 ///
 /// Want of memory for an answer, to note an uncharge of a cache that was unregistered, or for the
 /// record of a walk of the pools ends the run: then the result isn't whole, and what was done last
-/// may have no answer or lack its notes. It waits when its commands do. Our own.
+/// may have no answer or lack its notes. It waits when its commands do.
 pub fn run_worker<'a, R: Wait, G: Gate>(
     rt: &'a R,
     shared: &'a Shared,

@@ -1,3 +1,4 @@
+// SPDX-License-Identifier: GPL-2.0-only
 //! What a worker is given, and what it leaves.
 
 use shr_base::log::Log;
@@ -6,7 +7,7 @@ use shr_base::walks::Isolation;
 use shr_plain::PlainSeat;
 use shr_walk::seats::Seats;
 
-/// What a worker runs with: its number in the script, and its seats. Our own.
+/// What a worker runs with: its number in the script, and its seats.
 #[derive(Drop)]
 pub struct Task<'a> {
     pub number: u16,
@@ -15,7 +16,7 @@ pub struct Task<'a> {
     pub plain: PlainSeat<'a>,
 }
 
-/// What a worker leaves: its seats, with what they noted, and its answers. Our own.
+/// What a worker leaves: its seats, with what they noted, and its answers.
 #[derive(Drop)]
 pub struct WorkerResult<'a> {
     pub number: u16,

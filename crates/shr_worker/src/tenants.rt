@@ -1,3 +1,4 @@
+// SPDX-License-Identifier: GPL-2.0-only
 //! A tenant's put, whose texts are copied.
 
 ghost use Rattle.std.specs.Prelude.{◌⊎◌};

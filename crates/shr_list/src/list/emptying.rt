@@ -1,3 +1,4 @@
+// SPDX-License-Identifier: GPL-2.0-only
 //! Emptying a list: into its parent's, or for good.
 
 ghost use Rattle.std.specs.Prelude.{◌≡◌, ◌<◌, false, length};

@@ -1,3 +1,4 @@
+// SPDX-License-Identifier: GPL-2.0-only
 //! What a tenant does with one object by its birth group and key.
 
 ghost use Rattle.std.specs.Prelude.{◌≡◌, option_copied};

@@ -1,3 +1,4 @@
+// SPDX-License-Identifier: GPL-2.0-only
 //! Nodes in a slab, each with the node before and the node after. A node is named by its key in the slab.
 
 ghost use Rattle.std.specs.Prelude.{◌≡◌, ◌+◌, ◌++◌, ◌<◌, ◌≤◌, length, None, Some, []};
@@ -61,7 +62,7 @@ impl Chain {
         self.set_prev(after, before);
     }
 
-    /// Stores an object in a node that is not linked yet, and gives its key. Our own.
+    /// Stores an object in a node that is not linked yet, and gives its key.
     pub fn insert(&mut self, object: Object) -> u32
         requires { 0 < spare_in self.old.nodes }
         ensures { Inserts self.old self.new result object }
@@ -73,7 +74,7 @@ impl Chain {
         }) as u32
     }
 
-    /// Takes a node away that is not linked any more. Our own.
+    /// Takes a node away that is not linked any more.
     pub fn remove(&mut self, node: u32) -> Object
         requires { IsStored self.old node }
         ensures { Removes self.old self.new node result }
@@ -111,7 +112,7 @@ impl Chain {
         &self.nodes[node as usize].object
     }
 
-    /// Moves the objects from the head into a list. Our own.
+    /// Moves the objects from the head into a list.
     pub fn empty_into(&mut self, all: &mut Log<Object>)
         requires linked { IsLinked self.old (nodes_of self.old) }
         requires room { length (nodes_of self.old) ≤ all.old.spare }
@@ -129,7 +130,7 @@ impl Chain {
         self.tail = None;
     }
 
-    /// The objects at rest, where they lie. Our own.
+    /// The objects at rest, where they lie.
     #[tactic(auto, using(crate::proofs::Rested::rested, crate::proofs::Rested::rested_length))]
     pub fn into_items(self) -> Items
         requires { IsLinked self (nodes_of self) }
@@ -138,7 +139,7 @@ impl Chain {
         Items::of(self.nodes, self.head)
     }
 
-    /// Marks the object under a key, or takes its mark away. Our own.
+    /// Marks the object under a key, or takes its mark away.
     pub fn set_mark(&mut self, node: u32, marked: bool)
         requires { IsStored self.old node }
         ensures { SetsObject self.old self.new node (with_mark marked) }
@@ -146,7 +147,7 @@ impl Chain {
         self.nodes[node as usize].object.marked = marked;
     }
 
-    /// Pins the object under a key, or takes its pin away. Our own.
+    /// Pins the object under a key, or takes its pin away.
     pub fn set_pin(&mut self, node: u32, pinned: bool)
         requires { IsStored self.old node }
         ensures { SetsObject self.old self.new node (pinned_object pinned) }

@@ -1,3 +1,4 @@
+// SPDX-License-Identifier: GPL-2.0-only
 //! The names whose print another name has: from a birth group and a key to the node.
 
 ghost use Rattle.std.specs.Prelude.{◌≡◌, Some, None, IfOk, OnErr, IsSome};
@@ -10,7 +11,7 @@ use std::collections::BTreeMap;
 use std::collections::btree_map::Entry;
 use std::hash::{DefaultHasher, Hasher};
 
-/// What became of a name that was to be added. Our own.
+/// What became of a name that was to be added.
 #[derive(Clone, Copy)]
 pub enum Added {
     /// It was not there, and has its node now.
@@ -21,7 +22,7 @@ pub enum Added {
     Crowded,
 }
 
-/// A name and the key of its node. Our own.
+/// A name and the key of its node.
 #[derive(Drop)]
 struct Named {
     birth: u16,
@@ -29,7 +30,7 @@ struct Named {
     node: u32,
 }
 
-/// A tree of second prints, each with the name that has it. Our own.
+/// A tree of second prints, each with the name that has it.
 #[derive(Drop)]
 pub struct Clashes {
     seconds: BTreeMap<u128, Named>,
@@ -58,7 +59,7 @@ impl Named {
 }
 
 impl Clashes {
-    /// No name. It takes no memory. Our own.
+    /// No name. It takes no memory.
     pub fn new(alloc: Global) -> Clashes
         ensures { (name : _) → found_clash result name ≡ None }
     {
@@ -67,7 +68,7 @@ impl Clashes {
         }
     }
 
-    /// The node of this birth group and key. Our own.
+    /// The node of this birth group and key.
     pub fn get(&self, birth: u16, key: &Text) -> Option<u32>
         ensures { result ≡ found_clash self.now (birth, key.now) }
     {
@@ -90,7 +91,6 @@ impl Clashes {
 
     /// Makes this the node of the name, if it is not there and its second print is no other's, and
     /// answers which of these is so. If it is not made so, also for want of memory, the names stay.
-    /// Our own.
     pub fn add(&mut self, birth: u16, key: &Text, node: u32) -> Result<Added, Memory>
         ensures told { IfOk result (λ added. AddsClash self.old self.new (birth, key.now) node
             added) }
@@ -111,7 +111,7 @@ impl Clashes {
         }
     }
 
-    /// Makes this the node of a name that is there. It takes no memory. Our own.
+    /// Makes this the node of a name that is there. It takes no memory.
     pub fn turn(&mut self, birth: u16, key: &Text, node: u32)
         requires { IsSome (found_clash self.old (birth, key.now)) }
         ensures { PutsClash self.old self.new (birth, key.now) (Some node) }
@@ -121,7 +121,7 @@ impl Clashes {
         }
     }
 
-    /// Takes the name out. Our own.
+    /// Takes the name out.
     pub fn remove(&mut self, birth: u16, key: &Text)
         ensures { PutsClash self.old self.new (birth, key.now) None }
     {

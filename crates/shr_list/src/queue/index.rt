@@ -1,3 +1,4 @@
+// SPDX-License-Identifier: GPL-2.0-only
 //! How a list finds its objects by name.
 
 ghost use Rattle.std.specs.Prelude.{◌≡◌, ◌++◌, true, false, OnOk, OnErr, IfOk};
@@ -17,7 +18,7 @@ use std::alloc::Global;
 const FEW: usize = 8;
 
 /// The index of a list, if it has one. Most lists are of a few objects and have none, so it is in a
-/// box. Our own.
+/// box.
 #[derive(Drop)]
 pub enum Index {
     /// No two objects have one name. The list never had more than a few, and is searched from the
@@ -31,7 +32,7 @@ pub enum Index {
 }
 
 impl Index {
-    /// The node of the first of these objects with this birth group and key. Our own.
+    /// The node of the first of these objects with this birth group and key.
     pub fn find(&self, links: &Links, birth: u16, key: &Text) -> Option<u32>
         requires { KnowsNames self.now links.now.nodes }
         ensures { result ≡ key_named birth key.now links.now.nodes }
@@ -56,7 +57,7 @@ impl Index {
     }
 
     /// Makes the index, where with this many more there are more than a few objects and it was not
-    /// given up. What is known of the objects stays, on `Memory` too. Our own.
+    /// given up. What is known of the objects stays, on `Memory` too.
     pub fn prepare(&mut self, alloc: Global, links: &Links, more: usize) -> Result<(), Memory>
         requires { KnowsNames self.old links.now.nodes }
         ensures { KnowsNames self.new links.now.nodes }
@@ -73,7 +74,7 @@ impl Index {
     }
 
     /// Makes room for an object of this name at the tail, and tells the index of it, if none of
-    /// these has the name, and answers whether none has. If there is no memory all stays. Our own.
+    /// these has the name, and answers whether none has. If there is no memory all stays.
     pub fn admit(&mut self, links: &mut Links, birth: u16, key: &Text) -> Result<bool, Memory>
         requires { KnowsNames self.old links.old.nodes }
         ensures told { IfOk result (λ admitted. AdmitsName self.new links.new (birth, key.now)
@@ -102,7 +103,7 @@ impl Index {
         }
     }
 
-    /// Takes a name out that is there. Our own.
+    /// Takes a name out that is there.
     pub fn remove(&mut self, birth: u16, key: &Text)
         ensures { LosesName self.old self.new (birth, key.now) }
     {
@@ -111,7 +112,7 @@ impl Index {
         }
     }
 
-    /// Makes this the node of a name that is there. It takes no memory. Our own.
+    /// Makes this the node of a name that is there. It takes no memory.
     pub fn turn(&mut self, birth: u16, key: &Text, node: u32)
         ensures { MovesName self.old self.new (birth, key.now) node }
     {
@@ -122,7 +123,7 @@ impl Index {
 
     /// Takes in the names of another list's objects, by the nodes that they have there. Where two
     /// objects of both lists may have one name, or a name has no place, it is given up. If there is
-    /// no memory all stays. Our own.
+    /// no memory all stays.
     pub fn take_in(&mut self, links: &Links, other: &Links, apart: bool) -> Result<(), Memory>
         requires knows { KnowsNames self.old links.now.nodes }
         requires strangers { apart ≡ true → AreStrangers links.now.nodes other.now.nodes }
@@ -142,7 +143,7 @@ impl Index {
         Ok(())
     }
 
-    /// Whether it was given up. Our own.
+    /// Whether it was given up.
     pub fn is_given_up(&self) -> bool
         ensures { (nodes : _) → KnowsNames self.now nodes → result ≡ false → IsApart (names_of nodes) }
     {

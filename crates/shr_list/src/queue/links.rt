@@ -1,3 +1,4 @@
+// SPDX-License-Identifier: GPL-2.0-only
 //! The objects of a list, linked in a slab: each stays in its node while it is there.
 
 ghost use Rattle.std.specs.Prelude.{◌≡◌, ◌+◌, ◌<◌, ◌≤◌, ◌^◌, [], ◌∷◌, ◌++◌, length, OnOk, IfSome, IfNone, List};
@@ -75,7 +76,7 @@ impl Links {
     }
 
     /// Makes room for this many more objects. Where their keys would not fit 32 bits it is as where
-    /// there is no memory. The objects stay, whatever comes. Our own.
+    /// there is no memory. The objects stay, whatever comes.
     pub fn reserve(&mut self, more: usize) -> Result<(), Memory>
         ensures nodes { self.new.nodes ≡ self.old.nodes }
         ensures spare { OnOk result (more ≤ self.new.spare) }
@@ -87,7 +88,7 @@ impl Links {
         Ok(())
     }
 
-    /// The number of objects. Our own.
+    /// The number of objects.
     pub fn len(&self) -> usize
         ensures { result ≡ length self.now.nodes }
     {
@@ -143,7 +144,7 @@ impl Links {
         self.chain.object(node)
     }
 
-    /// Whether the object in the node with this key has this birth group and key. Our own.
+    /// Whether the object in the node with this key has this birth group and key.
     pub fn has_name(&self, node: u32, birth: u16, key: &Text) -> bool
         requires { IsAt self.now.nodes node }
         ensures { AtNode self.now.nodes node (λ xs o ys. result ≡ is_named birth key.now o) }
@@ -152,7 +153,7 @@ impl Links {
         object.birth == birth && object.key.same(key)
     }
 
-    /// The key that the next object gets, or `None` where it has more than 32 bits. Our own.
+    /// The key that the next object gets, or `None` where it has more than 32 bits.
     pub fn vacant(&self) -> Option<u32>
         ensures key { IfSome result (λ key. key ≡ self.now.vacant) }
         ensures large { IfNone result (2 ^ 32 ≤ self.now.vacant) }
@@ -226,7 +227,7 @@ impl Links {
         self.chain.join(Some(node), None);
     }
 
-    /// Marks the object under a key, or takes its mark away. Our own.
+    /// Marks the object under a key, or takes its mark away.
     pub fn set_mark(&mut self, node: u32, marked: bool)
         requires { IsAt self.old.nodes node }
         ensures { AtNode self.old.nodes node (λ xs o ys. self.new.nodes
@@ -235,7 +236,7 @@ impl Links {
         self.chain.set_mark(node, marked);
     }
 
-    /// Pins the object under a key, or takes its pin away. Our own.
+    /// Pins the object under a key, or takes its pin away.
     pub fn set_pin(&mut self, node: u32, pinned: bool)
         requires { IsAt self.old.nodes node }
         ensures { AtNode self.old.nodes node (λ xs o ys. self.new.nodes
@@ -245,7 +246,7 @@ impl Links {
     }
 
     /// The key of an object's node, counted from the head from 0. It costs the number of objects
-    /// before it. Our own.
+    /// before it.
     pub fn at(&self, i: usize) -> Option<u32>
         ensures key { result ≡ key_at i self.now.nodes }
         ensures apart { IsApart (keys_of self.now.nodes) }
@@ -261,7 +262,7 @@ impl Links {
     }
 
     /// Where an object is kept, counted from the head from 0. It costs the number of objects before
-    /// it. Our own.
+    /// it.
     pub fn slot(&self, i: usize) -> Option<Slot>
         ensures slot { result ≡ slot_at (keys_of self.now.nodes) i }
         ensures apart { IsApart (keys_of self.now.nodes) }
@@ -277,7 +278,7 @@ impl Links {
     }
 
     /// The key of the node of the first object with this birth group and key, searched from the
-    /// head. Our own.
+    /// head.
     pub fn find(&self, birth: u16, key: &Text) -> Option<u32>
         ensures { result ≡ key_named birth key.now self.now.nodes }
     {
@@ -294,7 +295,7 @@ impl Links {
         None
     }
 
-    /// Moves the objects from the head into a list. It costs their number. Our own.
+    /// Moves the objects from the head into a list. It costs their number.
     pub fn empty_into(&mut self, all: &mut Log<Object>)
         requires { length self.old.nodes ≤ all.old.spare }
         ensures taken { all.new.items ≡ all.old.items ++ objects_of self.old.nodes }
@@ -303,7 +304,7 @@ impl Links {
         self.chain.empty_into(all);
     }
 
-    /// The objects at rest, where they lie. Our own.
+    /// The objects at rest, where they lie.
     pub fn into_items(self) -> Items
         ensures { result.items ≡ objects_of self.nodes }
     {

@@ -1,3 +1,4 @@
+// SPDX-License-Identifier: GPL-2.0-only
 //! An index of objects: from a birth group and a key to a node.
 
 ghost use Rattle.std.specs.Prelude.{◌≡◌, [], None, IfOk, OnErr, Some};
@@ -21,7 +22,7 @@ use std::hash::{FoldHasher, Hasher};
 /// A name both of whose prints other names have gets no place here, and its list gives the index
 /// up. Both have to be hit at once, the first of 32 bits and the second of 128: keys of one first
 /// print are soon made, but as far as is known some 2^64 of them have to be tried before two have
-/// one second print too. Our own.
+/// one second print too.
 #[derive(Drop)]
 pub struct Names {
     prints: HashMap<u32, u32>,
@@ -40,7 +41,7 @@ fn print_of(birth: u16, key: &Text) -> u32
 }
 
 impl Names {
-    /// No name. It takes no memory. Our own.
+    /// No name. It takes no memory.
     pub fn new(alloc: Global) -> Names
         ensures { IsIndexed result [] }
     {
@@ -50,7 +51,7 @@ impl Names {
         }
     }
 
-    /// The node of this birth group and key, among these. Our own.
+    /// The node of this birth group and key, among these.
     pub fn get(&self, links: &Links, birth: u16, key: &Text) -> Option<u32>
         requires { IsIndexed self.now links.now.nodes }
         ensures { result ≡ key_named birth key.now links.now.nodes }
@@ -62,7 +63,7 @@ impl Names {
     }
 
     /// Makes this the node of a name, if none of these has it and it has a place, and answers which
-    /// of these is so. If it is not made so, also for want of memory, the names stay. Our own.
+    /// of these is so. If it is not made so, also for want of memory, the names stay.
     pub fn add(&mut self, links: &Links, birth: u16, key: &Text, node: u32) -> Result<Added, Memory>
         requires { IsIndexed self.old links.now.nodes }
         ensures told { IfOk result (λ added. AddsName self.old self.new links.now.nodes
@@ -87,7 +88,7 @@ impl Names {
     }
 
     /// Makes this the node of a name that is new, if it has a place, and answers whether it has. If
-    /// it has none, or for want of memory, the names stay. Our own.
+    /// it has none, or for want of memory, the names stay.
     pub fn put(&mut self, birth: u16, key: &Text, node: u32) -> Result<bool, Memory>
         ensures put { IfOk result (λ placed. PutsName self.old self.new (birth, key.now) node
             placed) }
@@ -105,7 +106,7 @@ impl Names {
         }
     }
 
-    /// Makes this the node of a name that is there. It takes no memory. Our own.
+    /// Makes this the node of a name that is there. It takes no memory.
     pub fn turn(&mut self, birth: u16, key: &Text, node: u32)
         ensures { TurnsName self.old self.new (birth, key.now) (Some node) }
     {
@@ -116,7 +117,7 @@ impl Names {
         }
     }
 
-    /// Takes a name out that is there. Our own.
+    /// Takes a name out that is there.
     pub fn remove(&mut self, birth: u16, key: &Text)
         ensures { TurnsName self.old self.new (birth, key.now) None }
     {

@@ -1,3 +1,4 @@
+// SPDX-License-Identifier: GPL-2.0-only
 //! Scans of a queue.
 
 ghost use Rattle.std.specs.Prelude.{◌≡◌, ◌≤◌, [], true, false, length, Ok, IfOk, OnErr};
@@ -155,7 +156,6 @@ impl Queue {
     }
 
     /// How many objects such a scan would free. The objects stay; it costs at most their number.
-    /// Our own.
     pub fn count_freed(&self, policy: Policy, asked: u32) -> usize
         ensures { result ≡ length (scan_of policy asked self.now.items).freed }
     {

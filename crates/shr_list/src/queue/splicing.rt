@@ -1,3 +1,4 @@
+// SPDX-License-Identifier: GPL-2.0-only
 //! How a queue takes in another's objects, and its index their names.
 
 ghost use Rattle.std.specs.Prelude.{◌≡◌, ◌↔◌, ◌≤◌, ◌++◌, [], List, true, false, length, take, OnOk, OnErr, IfOk};
@@ -29,7 +30,7 @@ fn withdraw(names: &mut Names, links: &Links, count: usize)
 }
 
 /// Puts the names of another list's objects into an index, by the nodes that they have there, and
-/// answers whether each has a place. If there is no memory the names stay. Our own.
+/// answers whether each has a place. If there is no memory the names stay.
 pub fn enlist(names: &mut Names, links: &Links, other: &Links) -> Result<bool, Memory>
     requires indexed { IsIndexed names.old links.now.nodes }
     requires strangers { AreStrangers links.now.nodes other.now.nodes }

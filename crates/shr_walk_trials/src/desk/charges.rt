@@ -1,3 +1,4 @@
+// SPDX-License-Identifier: GPL-2.0-only
 //! Charges that are made for no object.
 
 use crate::desk::lists::BY;
@@ -19,7 +20,7 @@ fn charge_once<R: Wait>(worker: &mut Worker<'_, R>) -> bool {
     true
 }
 
-/// Charges group 1 until the worker's charges are used up. Our own.
+/// Charges group 1 until the worker's charges are used up.
 pub fn wear<R: Wait>(worker: &mut Worker<'_, R>) {
     for _turn in 0..1_048_577 {
         if !charge_once(worker) {

@@ -1,3 +1,4 @@
+// SPDX-License-Identifier: GPL-2.0-only
 //! Holding an id for one call.
 
 ghost use Rattle.std.specs.Prelude.{◌≡◌, true, None, IfSome};
@@ -9,7 +10,7 @@ use shr_base::places::Place;
 use shr_core::lookups::Lookup;
 use shr_walk::seats::{Seats, Shared};
 
-/// Whether there is such a place. Our own.
+/// Whether there is such a place.
 pub fn is_place(shared: &Shared, place: Place) -> bool
     ensures { result ≡ true → IsPlaceOfShape (shape_of shared.now.core) place }
 {
@@ -17,7 +18,7 @@ pub fn is_place(shared: &Shared, place: Place) -> bool
     place.id < shape.ids && place.node < shape.nodes && (place.group as usize) < shape.parents.len()
 }
 
-/// Looks the id of a place up, and tells the number of the lookup where it is held now. Our own.
+/// Looks the id of a place up, and tells the number of the lookup where it is held now.
 pub fn hold(shared: &Shared, seats: &mut Seats<'_>, place: Place) -> Option<u32>
     requires { IsFit shared.now seats.old }
     ensures held { IfSome result (λ n. IsHolder shared.now place seats.new) }
@@ -33,7 +34,7 @@ pub fn hold(shared: &Shared, seats: &mut Seats<'_>, place: Place) -> Option<u32>
     }
 }
 
-/// Gives the reference to the held id back. Our own.
+/// Gives the reference to the held id back.
 pub fn rest(shared: &Shared, seats: &mut Seats<'_>, place: Place)
     requires { IsHolder shared.now place seats.old }
     ensures { IsFit shared.now seats.new }

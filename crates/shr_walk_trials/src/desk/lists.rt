@@ -1,3 +1,4 @@
+// SPDX-License-Identifier: GPL-2.0-only
 //! What a tenant does with one object. Nothing is charged for an object.
 
 use crate::desk::holding::{hold, rest};
@@ -10,13 +11,13 @@ use shr_node::tenants::{self, TenantCall};
 use shr_walk::worker::Worker;
 use std::sync::Wait;
 
-/// The command that makes each call. Our own.
+/// The command that makes each call.
 pub const BY: Serial = Serial {
     worker: 0,
     command: 0,
 };
 
-/// Adds an object of this key, whose birth group is that of the place. Our own.
+/// Adds an object of this key, whose birth group is that of the place.
 pub fn add<R: Wait>(
     worker: &mut Worker<'_, R>,
     place: Place,
@@ -39,7 +40,6 @@ pub fn add<R: Wait>(
 }
 
 /// Adds so many objects whose keys are the two bytes of their numbers, and tells how many were added.
-/// Our own.
 pub fn fill<R: Wait>(worker: &mut Worker<'_, R>, place: Place, objects: u16) -> u32 {
     let mut added: u32 = 0;
     for number in 0..objects {
@@ -50,12 +50,12 @@ pub fn fill<R: Wait>(worker: &mut Worker<'_, R>, place: Place, objects: u16) -> 
     added
 }
 
-/// Whether an object was added. Our own.
+/// Whether an object was added.
 pub fn is_added(answer: &Option<NodeAnswer<bool>>) -> bool {
     matches!(answer, Some(NodeAnswer::Told { at: _, told: true }))
 }
 
-/// Takes an object out. Our own.
+/// Takes an object out.
 pub fn drop_key<R: Wait>(
     worker: &mut Worker<'_, R>,
     place: Place,

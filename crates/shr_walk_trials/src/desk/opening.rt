@@ -1,3 +1,4 @@
+// SPDX-License-Identifier: GPL-2.0-only
 //! A desk at the start.
 
 ghost use Rattle.std.specs.Prelude.{◌≡◌, ◌+◌, ◌<◌, ◌≤◌, ◌^◌, IfOk};
@@ -18,7 +19,7 @@ use std::alloc::Global;
 use std::sync::Wait;
 use std::test::Fail;
 
-/// The tables of a script, and the first seats. Our own.
+/// The tables of a script, and the first seats.
 pub fn open(alloc: Global, text: &[u8]) -> Result<(Shared, FirstSeats), Fail>
     ensures { IfOk result (λ t. AreNew t.0 t.1) }
 {
@@ -55,7 +56,7 @@ fn shorten(
     Ok((shared, first))
 }
 
-/// The same, but that a list's journal takes at most so many entries beside its Closed. Our own.
+/// The same, but that a list's journal takes at most so many entries beside its Closed.
 pub fn open_short(
     alloc: Global,
     text: &[u8],
@@ -68,7 +69,7 @@ pub fn open_short(
     Ok(shorten(shared, first, most_entries)?)
 }
 
-/// The seats of one worker more, where the first seats were split `splits` times. Our own.
+/// The seats of one worker more, where the first seats were split `splits` times.
 pub fn another<'a>(shared: &Shared, first: &mut Seats<'a>, splits: u8) -> Result<Seats<'a>, Memory>
     requires first { AreFirstSeats shared.now first.old splits }
     requires few { splits < 64 }
@@ -91,7 +92,7 @@ pub fn another<'a>(shared: &Shared, first: &mut Seats<'a>, splits: u8) -> Result
     })
 }
 
-/// The worker of these seats. Our own.
+/// The worker of these seats.
 pub fn worker_of<'a, R: Wait>(rt: &'a R, shared: &'a Shared, seats: Seats<'a>) -> Worker<'a, R>
     requires { IsFit shared.now seats }
     ensures { result.shared ≡ shared.entry.now }
@@ -104,14 +105,14 @@ pub fn worker_of<'a, R: Wait>(rt: &'a R, shared: &'a Shared, seats: Seats<'a>) -
     }
 }
 
-/// The seats of a worker that is done. Our own.
+/// The seats of a worker that is done.
 pub fn seats_of<'a, R: Wait>(worker: Worker<'a, R>) -> Seats<'a>
     ensures { IsFit worker.entry.shared result }
 {
     worker.seats
 }
 
-/// Registers each declaration that is on, in order. Our own.
+/// Registers each declaration that is on, in order.
 pub fn register_all<R: Wait>(worker: &mut Worker<'_, R>) -> Result<(), Fail>
     ensures { worker.new.shared ≡ worker.old.shared }
 {
@@ -135,7 +136,7 @@ fn is_registered(answer: &Option<RegisterAnswer>) -> bool {
     matches!(answer, Some(RegisterAnswer::Registered { .. }))
 }
 
-/// A worker at the first seats, which registered each cache that is on. Our own.
+/// A worker at the first seats, which registered each cache that is on.
 pub fn worker_at<'a, R: Wait>(
     rt: &'a R,
     shared: &'a Shared,

@@ -1,3 +1,4 @@
+// SPDX-License-Identifier: GPL-2.0-only
 //! Walks, and going offline.
 
 use shr_base::walks::WalkAnswer;
@@ -7,7 +8,7 @@ use shr_walk::balance::walk_one;
 use shr_walk::worker::Worker;
 use std::sync::Wait;
 
-/// Walks a group on node 0, the root by its own walk. Our own.
+/// Walks a group on node 0, the root by its own walk.
 pub fn walk<R: Wait>(
     worker: &mut Worker<'_, R>,
     group: u16,
@@ -21,7 +22,7 @@ pub fn walk<R: Wait>(
     Some(walk_one(worker, group, 0, priority, nofs))
 }
 
-/// Takes a group offline. Our own.
+/// Takes a group offline.
 pub fn offline<R: Wait>(worker: &mut Worker<'_, R>, group: u16) -> Option<OfflineAnswer> {
     if group as usize >= worker.shared.core.shape().parents.len() {
         return None;

@@ -1,3 +1,4 @@
+// SPDX-License-Identifier: GPL-2.0-only
 //! Single steps on the words: counts, bits, phases and deferred work.
 
 use crate::desk::holding::is_place;
@@ -6,7 +7,7 @@ use shr_core::counts::Seen;
 use shr_walk::worker::Worker;
 use std::sync::Wait;
 
-/// The count of a place. Our own.
+/// The count of a place.
 pub fn count<R: Wait>(worker: &mut Worker<'_, R>, place: Place) -> Option<Seen> {
     if !is_place(worker.shared, place) {
         return None;
@@ -14,7 +15,7 @@ pub fn count<R: Wait>(worker: &mut Worker<'_, R>, place: Place) -> Option<Seen> 
     Some(worker.seats.cache.core.count(place))
 }
 
-/// Whether the bit of a place below the root is set, for an id below 64. Our own.
+/// Whether the bit of a place below the root is set, for an id below 64.
 pub fn is_set<R: Wait>(worker: &mut Worker<'_, R>, place: Place) -> Option<bool> {
     if !is_place(worker.shared, place) || place.group == 0 || place.id >= 64 {
         return None;
@@ -24,7 +25,6 @@ pub fn is_set<R: Wait>(worker: &mut Worker<'_, R>, place: Place) -> Option<bool>
 }
 
 /// The phase of an id: modulo 3 it is 0 where the id is idle, 1 where it is live, and 2 where it is dying.
-/// Our own.
 pub fn phase<R: Wait>(worker: &mut Worker<'_, R>, id: u16) -> Option<u16> {
     if id >= worker.shared.core.shape().ids {
         return None;
@@ -32,7 +32,7 @@ pub fn phase<R: Wait>(worker: &mut Worker<'_, R>, id: u16) -> Option<u16> {
     Some(worker.seats.cache.core.word_of(id).phase)
 }
 
-/// Defers so many objects more at a place, and tells whether there is such a place. Our own.
+/// Defers so many objects more at a place, and tells whether there is such a place.
 pub fn defer<R: Wait>(worker: &mut Worker<'_, R>, place: Place, more: u64) -> bool {
     if !is_place(worker.shared, place) {
         return false;

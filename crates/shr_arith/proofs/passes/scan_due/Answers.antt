@@ -1,3 +1,4 @@
+-- SPDX-License-Identifier: GPL-2.0-only
 use Rattle.std.proofs.Common.{◌≡◌, ℕ, ◌+◌, Bool, sym, subst, arith}
 use Rattle.shr_model.specs.Pass.{due, MadeOf}
 use Rattle.shr_model.proofs.PassLaws.{next_turn, last_turn}

@@ -1,3 +1,4 @@
+-- SPDX-License-Identifier: GPL-2.0-only
 use Rattle.std.proofs.Common.{◌≡◌, ◌+◌, ◌*◌, ◌≤◌, false}
 use Rattle.shr_model.specs.Pass.{due, ask_size}
 use Rattle.shr_arith.proofs.passes.scan_due.Given as goal

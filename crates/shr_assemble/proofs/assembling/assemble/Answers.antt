@@ -1,3 +1,4 @@
+-- SPDX-License-Identifier: GPL-2.0-only
 use Rattle.shr_assemble.proofs.Common.{◌≡◌, ◌+◌, Report, IsFaithful, IsLawful, AreFreePutsAdded, DoPutsAddUp, IsWellFormed, IsMadeOf, IsPutTogether}
 use Rattle.std.proofs.lemmas.Result.{IfOk-weaker}
 use Rattle.shr_assemble.proofs.EndsLawful.{lawful, faithful, sums, free_puts, add_up, is_well_formed}

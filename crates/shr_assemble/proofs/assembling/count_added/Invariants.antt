@@ -1,3 +1,4 @@
+-- SPDX-License-Identifier: GPL-2.0-only
 use Rattle.shr_assemble.proofs.Common.{◌≡◌, ◌≤◌, take, length, added_by_all}
 use Rattle.shr_assemble.proofs.assembling.count_added.Given as goal
 

@@ -1,3 +1,4 @@
+-- SPDX-License-Identifier: GPL-2.0-only
 use Rattle.shr_assemble.proofs.Common.{◌≡◌, ◌∷◌, map, take, codes}
 use Rattle.shr_assemble.proofs.assembling.paths_of.Given as goal
 

@@ -1,3 +1,4 @@
+-- SPDX-License-Identifier: GPL-2.0-only
 use Rattle.shr_assemble.proofs.Common.{◌≡◌, take, listed_count}
 use Rattle.shr_assemble.proofs.assembling.total_listed.Given as goal
 

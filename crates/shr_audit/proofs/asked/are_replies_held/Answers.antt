@@ -1,3 +1,4 @@
+-- SPDX-License-Identifier: GPL-2.0-only
 use Rattle.shr_audit.proofs.Common.{Holds, AreRepliesLawful}
 use Rattle.shr_audit_formed.proofs.Eachs.{fails}
 use Rattle.shr_audit.specs.declared.verdict.Law.TheVariants as laws

@@ -1,3 +1,4 @@
+-- SPDX-License-Identifier: GPL-2.0-only
 use Rattle.shr_audit.proofs.Common.{arith, is_tree}
 use Rattle.shr_audit.proofs.Premises.{few_groups}
 use Rattle.shr_audit.proofs.Order.{held_none, held_more, first_broken, all_held}

@@ -1,3 +1,4 @@
+-- SPDX-License-Identifier: GPL-2.0-only
 use Rattle.shr_audit.proofs.Order.{AreHeldTo}
 use Rattle.shr_audit.proofs.asked.first_broken.Given as goal
 

@@ -1,3 +1,4 @@
+-- SPDX-License-Identifier: GPL-2.0-only
 use Rattle.shr_audit.specs.declared.verdict.Law.TheVariants as laws
 use Rattle.shr_audit.proofs.Order.{decided}
 use Rattle.shr_audit.proofs.Premises.{few_groups, few_of_each, few_pools, some_node}

@@ -1,3 +1,4 @@
+-- SPDX-License-Identifier: GPL-2.0-only
 use Rattle.shr_audit.proofs.Common.{sym, subst, Script, IsScriptOf}
 use Rattle.shr_audit.proofs.OneScript.{tight_read}
 use Rattle.shr_audit.proofs.script.script_of.Goals as goal

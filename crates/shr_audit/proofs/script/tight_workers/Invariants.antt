@@ -1,3 +1,4 @@
+-- SPDX-License-Identifier: GPL-2.0-only
 use Rattle.shr_audit.proofs.Common.{◌≡◌, map, tight_worker}
 use Rattle.shr_audit.proofs.script.tight_workers.Given as goal
 

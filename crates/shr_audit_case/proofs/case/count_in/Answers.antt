@@ -1,3 +1,4 @@
+-- SPDX-License-Identifier: GPL-2.0-only
 use Rattle.std.proofs.Common.{◌∙◌, arith}
 use Rattle.shr_audit_case.proofs.Telling.{count_within, count_past}
 use Rattle.shr_audit_case.proofs.case.count_in.Goals as goal

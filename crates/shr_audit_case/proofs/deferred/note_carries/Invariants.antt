@@ -1,3 +1,4 @@
+-- SPDX-License-Identifier: GPL-2.0-only
 use Rattle.shr_audit_case.proofs.SumsCommon.{take, sum_by, GainsAtEach, carried_to, carried_from}
 use Rattle.shr_audit_case.proofs.deferred.note_carries.Given as goal
 

@@ -1,3 +1,4 @@
+-- SPDX-License-Identifier: GPL-2.0-only
 use Rattle.shr_base.specs.declared.walks.PassRecord.{PassRecord}
 use Rattle.shr_audit_case.proofs.Gaining.{gains_as, walk_all}
 use Rattle.shr_audit_case.proofs.deferred.note_walk.Goals as goal

@@ -1,3 +1,4 @@
+-- SPDX-License-Identifier: GPL-2.0-only
 use Rattle.shr_audit_case.proofs.SumsCommon.{take, sum_by, PassRecord, GainsAtEach}
 use Rattle.shr_audit_case.proofs.Gaining.{part_at}
 use Rattle.shr_audit_case.proofs.deferred.note_walk.Given as goal

@@ -1,3 +1,4 @@
+-- SPDX-License-Identifier: GPL-2.0-only
 use Rattle.shr_audit_case.proofs.SumsCommon.{take, sum_by, flat_map, PassRecord, passes_at, GainsAtEach}
 use Rattle.shr_audit_case.proofs.deferred.note_walks.Given as goal
 

@@ -1,3 +1,4 @@
+-- SPDX-License-Identifier: GPL-2.0-only
 use Rattle.shr_audit_case.proofs.SumsCommon.{refl, arith, ap, sum_by_more, is_place, sum_at, amount_at}
 use Rattle.shr_audit_case.proofs.Gaining.{gains_more, no_up}
 use Rattle.shr_audit_case.proofs.deferred.note_words.Goals as goal

@@ -1,3 +1,4 @@
+-- SPDX-License-Identifier: GPL-2.0-only
 use Rattle.shr_audit_case.proofs.SumsCommon.{take, sum_at, GainsAtEach}
 use Rattle.shr_audit_case.proofs.deferred.note_words.Given as goal
 

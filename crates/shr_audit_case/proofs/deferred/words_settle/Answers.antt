@@ -1,3 +1,4 @@
+-- SPDX-License-Identifier: GPL-2.0-only
 use Rattle.shr_audit_case.proofs.SumsCommon.{sum_at, given_at, taken_at}
 use Rattle.shr_audit_case.proofs.WordsLaw.{words_law, gained}
 use Rattle.shr_audit_case.proofs.deferred.words_settle.Goals as goal

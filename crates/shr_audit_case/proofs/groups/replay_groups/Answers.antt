@@ -1,3 +1,4 @@
+-- SPDX-License-Identifier: GPL-2.0-only
 use Rattle.shr_audit_case.proofs.ReplayCommon.{slice_set, at_group, Replayed, length-set, length-append, List, [], ◌∷◌, ◌≡◌, ◌∙◌, ℕ, ◌+◌, ◌-◌, ◌<◌, ◌≤◌, length, sym, ap, subst, arith, Place, Family, AreJournals, AreReplayed, printed_entries, option_copied, printed_items}
 use Rattle.shr_audit_case.proofs.Climbing.{AreClimbed, climbed_none, climbed_more, one_told, one_given}
 use Rattle.shr_audit_case.proofs.groups.replay_groups.Goals as goal

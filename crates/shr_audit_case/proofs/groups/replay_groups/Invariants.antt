@@ -1,3 +1,4 @@
+-- SPDX-License-Identifier: GPL-2.0-only
 use Rattle.shr_audit_case.proofs.ReplayCommon.{◌≡◌, ℕ, ◌-◌, List, length, Object, Place, Family, AreJournals, ArePrinted}
 use Rattle.shr_audit_case.proofs.Climbing.{AreClimbed}
 use Rattle.shr_audit_case.proofs.groups.replay_groups.Given as goal

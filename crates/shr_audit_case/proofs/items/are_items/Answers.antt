@@ -1,3 +1,4 @@
+-- SPDX-License-Identifier: GPL-2.0-only
 use Rattle.shr_audit_case.proofs.ReplayCommon.{◌≡◌, ◌∷◌, ◌∙◌, true, false, List, Option, Some, sym, ap, subst, Decides, Object, IsAt}
 use Rattle.shr_audit_case.proofs.Matching.{matched_none, matched_at, matched_more, matched_all, too_many, other_object}
 use Rattle.shr_audit_case.proofs.items.are_items.Goals as goal

@@ -1,3 +1,4 @@
+-- SPDX-License-Identifier: GPL-2.0-only
 use Rattle.std.proofs.Common.{length}
 use Rattle.shr_audit_case.proofs.Matching.{IsMatched}
 use Rattle.shr_audit_case.proofs.items.are_items.Given as goal

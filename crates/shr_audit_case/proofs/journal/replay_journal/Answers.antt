@@ -1,3 +1,4 @@
+-- SPDX-License-Identifier: GPL-2.0-only
 use Rattle.shr_audit_case.proofs.ReplayCommon.{◌≡◌, ◌≤◌, ◌+◌, ◌∙◌, sym, ap, subst, List, [], ◌∷◌, length, drop, refl, ℕ, Entry, Object, took_of, KeepsOthers, drop_more, drop_all}
 use Rattle.shr_audit_case.proofs.Taking.{keeps_more}
 use Rattle.shr_audit_case.proofs.Following.{IsBehind, behind_none, behind_more, replayed_all, given_all}

@@ -1,3 +1,4 @@
+-- SPDX-License-Identifier: GPL-2.0-only
 use Rattle.shr_audit_case.proofs.ReplayCommon.{drop, took_of, KeepsOthers}
 use Rattle.shr_audit_case.proofs.Following.{IsBehind}
 use Rattle.shr_audit_case.proofs.journal.replay_journal.Given as goal

@@ -1,3 +1,4 @@
+-- SPDX-License-Identifier: GPL-2.0-only
 use Rattle.shr_audit_case.specs.Replaying.{AreFirsts}
 use Rattle.shr_audit_case.proofs.lists.firsts_at.Given as goal
 

@@ -1,3 +1,4 @@
+-- SPDX-License-Identifier: GPL-2.0-only
 use Rattle.shr_audit_case.proofs.Common.{subst, IsNewAt}
 use Rattle.shr_audit_case.proofs.Replaying.{ready_new, ready_old}
 use Rattle.shr_audit_case.proofs.lists.renew.Goals as goal

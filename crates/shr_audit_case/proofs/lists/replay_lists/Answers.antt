@@ -1,3 +1,4 @@
+-- SPDX-License-Identifier: GPL-2.0-only
 use Rattle.shr_audit_case.proofs.Common.{◌+◌, ℕ, ◌∙◌, [], ◌∷◌, length, length-append, sym, ap, subst, IsReplayOfList}
 use Rattle.shr_audit_case.proofs.Replaying.{told_more}
 use Rattle.shr_audit_case.proofs.lists.replay_lists.Goals as goal

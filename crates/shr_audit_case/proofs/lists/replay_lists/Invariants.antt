@@ -1,3 +1,4 @@
+-- SPDX-License-Identifier: GPL-2.0-only
 use Rattle.shr_audit_case.proofs.Common.{◌≡◌, ℕ, length, Some, slice_get, Replayed, IsReplayOfList, AreReplaysBefore}
 use Rattle.shr_audit_case.proofs.lists.replay_lists.Given as goal
 

@@ -1,3 +1,4 @@
+-- SPDX-License-Identifier: GPL-2.0-only
 use Rattle.shr_audit_case.proofs.Common.{ℕ, List, length, sym, subst, AreJournals, ArePrinted, items_printed_in, journals_in}
 use Rattle.shr_audit_case.proofs.Replaying.{journals_there, printed_there}
 use Rattle.shr_audit_case.proofs.lists.replay_node.Goals as goal

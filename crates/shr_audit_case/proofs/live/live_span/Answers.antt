@@ -1,3 +1,4 @@
+-- SPDX-License-Identifier: GPL-2.0-only
 use Rattle.shr_audit_case.proofs.RegistrationsCommon.{◌+◌, ℕ, ap, ◌∙◌, ◌&&◌, nat_le, nat_lt, entry_key, lookup_key}
 use Rattle.shr_audit_case.proofs.Spanning.{entry_has}
 use Rattle.shr_audit_case.proofs.live.live_span.Goals as goal

@@ -1,3 +1,4 @@
+-- SPDX-License-Identifier: GPL-2.0-only
 use Rattle.shr_audit_case.proofs.Spanning.{lives_idle}
 use Rattle.shr_audit_case.proofs.live.note_entry.Goals as goal
 

@@ -1,3 +1,4 @@
+-- SPDX-License-Identifier: GPL-2.0-only
 use Rattle.shr_audit_case.proofs.RegistrationsCommon.{List, ◌∷◌, sym, subst, ◌∙◌, Registered, Span, AreLivesNoted}
 use Rattle.shr_audit_case.proofs.Spanning.{lives_registered, of_is}
 use Rattle.shr_audit_case.proofs.live.note_registered.Goals as goal

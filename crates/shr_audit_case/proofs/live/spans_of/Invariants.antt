@@ -1,3 +1,4 @@
+-- SPDX-License-Identifier: GPL-2.0-only
 use Rattle.shr_audit_case.proofs.RegistrationsCommon.{◌≤◌, drop, length, AreLivesNoted}
 use Rattle.shr_audit_case.proofs.live.spans_of.Given as goal
 

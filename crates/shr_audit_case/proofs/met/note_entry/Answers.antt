@@ -1,3 +1,4 @@
+-- SPDX-License-Identifier: GPL-2.0-only
 use Rattle.shr_audit_case.proofs.Noting.{noted_idle}
 use Rattle.shr_audit_case.proofs.met.note_entry.Goals as goal
 

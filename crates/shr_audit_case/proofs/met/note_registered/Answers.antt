@@ -1,3 +1,4 @@
+-- SPDX-License-Identifier: GPL-2.0-only
 use Rattle.shr_audit_case.proofs.RegistrationsCommon.{List, ◌∷◌, sym, subst, ◌∙◌, Registered, Span, AreNoted}
 use Rattle.shr_audit_case.proofs.Noting.{noted_registered}
 use Rattle.shr_audit_case.proofs.met.note_registered.Goals as goal

@@ -1,3 +1,4 @@
+-- SPDX-License-Identifier: GPL-2.0-only
 use Rattle.shr_audit_case.proofs.RegistrationsCommon.{Bool, Some, cond, ap, ◌∙◌, nat_cmp, get}
 use Rattle.shr_audit_case.proofs.Noting.{at_same, noted_unregistered}
 use Rattle.shr_audit_case.proofs.met.note_unregistered.Goals as goal

@@ -1,3 +1,4 @@
+-- SPDX-License-Identifier: GPL-2.0-only
 use Rattle.std.proofs.Common.{arith}
 use Rattle.shr_audit_case.proofs.Noting.{noted_next, noted_start}
 use Rattle.shr_audit_case.proofs.met.spans_of.Goals as goal

@@ -1,3 +1,4 @@
+-- SPDX-License-Identifier: GPL-2.0-only
 use Rattle.shr_audit_case.proofs.RegistrationsCommon.{◌≤◌, drop, length, AreNoted}
 use Rattle.shr_audit_case.proofs.met.spans_of.Given as goal
 

@@ -1,3 +1,4 @@
+-- SPDX-License-Identifier: GPL-2.0-only
 use Rattle.std.proofs.Common.{◌∙◌, sym, arith}
 use Rattle.shr_audit_case.proofs.Settling.{run_goes_on, next_run, run_fails, last_run}
 use Rattle.shr_audit_case.proofs.moves.runs_settle.Goals.{then-m-key, else-m-key+else-up-down}

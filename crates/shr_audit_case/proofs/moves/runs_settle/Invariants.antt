@@ -1,3 +1,4 @@
+-- SPDX-License-Identifier: GPL-2.0-only
 use Rattle.std.proofs.Common.{◌≡◌, drop}
 use Rattle.shr_audit_case.specs.Moves.{settles}
 use Rattle.shr_audit_case.proofs.moves.runs_settle.Given as goal

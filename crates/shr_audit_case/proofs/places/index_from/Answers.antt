@@ -1,3 +1,4 @@
+-- SPDX-License-Identifier: GPL-2.0-only
 use Rattle.shr_audit_case.proofs.Common.{◌≡◌, true, false, subst, arith, get_or_from_slice_get, slice_get_within, PlaceEnd, comes_before, rules}
 use Rattle.std.proofs.lemmas.List.Sorted.{IsPartitionPoint-from_clause}
 use Rattle.shr_audit_case.proofs.Order.{parted}

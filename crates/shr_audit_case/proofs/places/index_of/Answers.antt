@@ -1,3 +1,4 @@
+-- SPDX-License-Identifier: GPL-2.0-only
 use Rattle.shr_audit_case.proofs.Common.{sym, ◌∙◌, arith, slice_get_within}
 use Rattle.shr_audit_case.proofs.Firsts.{index_here, other_here}
 use Rattle.shr_audit_case.proofs.Order.{first_here, away_here}

@@ -1,3 +1,4 @@
+-- SPDX-License-Identifier: GPL-2.0-only
 use Rattle.shr_audit_case.proofs.Common.{◌-◌, get_or, subst, sym, ap, ◌∙◌, arith, Decides, slice_get-get_or, get_or_from_slice_get, PlaceEnd, IsFirst, comes_before}
 use Rattle.shr_audit_case.proofs.Order.{first_decided}
 use Rattle.shr_audit_case.proofs.places.is_first.Goals as goal

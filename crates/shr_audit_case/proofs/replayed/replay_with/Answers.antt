@@ -1,3 +1,4 @@
+-- SPDX-License-Identifier: GPL-2.0-only
 use Rattle.shr_audit_case.proofs.ReplayCommon.{◌≡◌, sym, ◌∙◌, Some, false, true, child_of, took_of}
 use Rattle.shr_audit_case.proofs.Moving.{after_some, left_some}
 use Rattle.shr_audit_case.proofs.Taking.{took_none, without_none, took_rest}

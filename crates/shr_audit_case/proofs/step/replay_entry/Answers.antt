@@ -1,3 +1,4 @@
+-- SPDX-License-Identifier: GPL-2.0-only
 use Rattle.std.proofs.Common.{sym, subst}
 use Rattle.shr_base.specs.declared.journals.Entry.{Entry}
 use Rattle.shr_audit_case.specs.Replay.{Replays}

@@ -1,3 +1,4 @@
+-- SPDX-License-Identifier: GPL-2.0-only
 use Rattle.std.proofs.Common.{◌≡◌, ◌++◌, map, take}
 use Rattle.shr_audit_case.specs.Tags.{freed_tag}
 use Rattle.shr_audit_case.proofs.tags.note_freed.Given as goal

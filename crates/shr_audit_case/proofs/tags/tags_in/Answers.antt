@@ -1,3 +1,4 @@
+-- SPDX-License-Identifier: GPL-2.0-only
 use Rattle.shr_audit_case.proofs.ReplayCommon.{◌≡◌, ◌≤◌, ◌+◌, ◌++◌, ◌∷◌, [], Option, Some, ℕ, List, length, map, ◌∙◌, sym, ap, subst, inl, inr, arith, Keyed, objects_of, Object, Tag, tag_of, length-map}
 use Rattle.shr_audit_case.proofs.Listing.{IsListed, listed_none, node_here, listed_more, listed_all}
 use Rattle.shr_audit_case.proofs.tags.tags_in.Goals as goal

@@ -1,3 +1,4 @@
+-- SPDX-License-Identifier: GPL-2.0-only
 use Rattle.shr_audit_case.proofs.Listing.{IsListed}
 use Rattle.shr_audit_case.proofs.tags.tags_in.Given as goal
 

@@ -1,3 +1,4 @@
+-- SPDX-License-Identifier: GPL-2.0-only
 use Rattle.shr_audit_causes.proofs.OfflinesCommon.{◌≡◌, ◌∙◌, ◌++◌, ◌∷◌, [], ℕ, List, get_or, ap, arith, parent_of, parents_of, Cited, cited_in, Whose, Nobody, either, whose_of}
 use Rattle.shr_audit_causes.proofs.AboveLaws.{upto_all, upto_more, upto_one, whose_next}
 use Rattle.shr_audit_causes.proofs.PathLaws.{parent_lower}

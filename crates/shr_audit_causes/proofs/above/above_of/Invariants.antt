@@ -1,3 +1,4 @@
+-- SPDX-License-Identifier: GPL-2.0-only
 use Rattle.shr_audit_causes.proofs.AboveLaws.{Upto}
 use Rattle.shr_audit_causes.proofs.above.above_of.Given as goal
 

@@ -1,3 +1,4 @@
+-- SPDX-License-Identifier: GPL-2.0-only
 use Rattle.std.proofs.Common.{◌∙◌, take}
 use Rattle.shr_audit_causes.proofs.CarriedLaws.{all_carried, carries_more, many_none, none_carried}
 use Rattle.shr_audit_causes.proofs.carried.carried_of.Goals as goal

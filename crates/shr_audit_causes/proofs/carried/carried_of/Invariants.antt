@@ -1,3 +1,4 @@
+-- SPDX-License-Identifier: GPL-2.0-only
 use Rattle.shr_audit_causes.proofs.OfflinesCommon.{◌≡◌, length, take, HasCarriedSums}
 use Rattle.shr_audit_causes.proofs.carried.carried_of.Given as goal
 

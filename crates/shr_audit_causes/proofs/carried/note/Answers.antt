@@ -1,3 +1,4 @@
+-- SPDX-License-Identifier: GPL-2.0-only
 use Rattle.shr_audit_causes.proofs.OfflinesCommon.{◌<◌, ◌+◌, ◌%◌, ◌^◌, ◌∙◌, ℕ, ap, length, arith, get_or_default}
 use Rattle.shr_audit_causes.proofs.CarriedLaws.{no_command, one_noted, other_worker}
 use Rattle.shr_audit_causes.proofs.carried.note.Goals as goal

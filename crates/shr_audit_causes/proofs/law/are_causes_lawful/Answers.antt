@@ -1,3 +1,4 @@
+-- SPDX-License-Identifier: GPL-2.0-only
 use Rattle.shr_audit_formed.proofs.Eachs.{fails}
 use Rattle.shr_laws.specs.CausesLawful.{AreCausesLawful}
 use Rattle.shr_audit_causes.specs.Rows.{AreRowsCaused}

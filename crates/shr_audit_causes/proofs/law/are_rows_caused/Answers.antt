@@ -1,3 +1,4 @@
+-- SPDX-License-Identifier: GPL-2.0-only
 use Rattle.shr_audit_formed.proofs.Eachs.{fails}
 use Rattle.shr_audit_causes.specs.Rows.{AreRowsCaused}
 use Rattle.shr_audit_causes.proofs.Few.{are_few, is_tree}

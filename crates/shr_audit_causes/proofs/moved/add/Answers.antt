@@ -1,3 +1,4 @@
+-- SPDX-License-Identifier: GPL-2.0-only
 use Rattle.shr_audit_causes.proofs.OfflinesCommon.{◌<◌, ◌+◌, ◌-◌, ◌^◌, ◌∙◌, ℕ, ap, length, arith, min, get_or_default}
 use Rattle.shr_audit_causes.proofs.MovedLaws.{sums_more}
 use Rattle.shr_audit_causes.proofs.moved.add.Goals as goal

@@ -1,3 +1,4 @@
+-- SPDX-License-Identifier: GPL-2.0-only
 use Rattle.shr_audit_causes.proofs.OfflinesCommon.{◌+◌, ◌-◌, ◌*◌, ◌<◌, ◌∙◌, List, subst, take, arith, sum_by, Entry, moved_of, AreCappedSums}
 use Rattle.shr_audit_causes.proofs.MovedLaws.{all_moved, moved_by, places_more, sums_none}
 use Rattle.shr_audit_causes.proofs.moved.moved_of.Goals as goal

@@ -1,3 +1,4 @@
+-- SPDX-License-Identifier: GPL-2.0-only
 use Rattle.shr_audit_causes.proofs.OfflinesCommon.{◌≡◌, ◌-◌, length, take, sum_by, AreCappedSums}
 use Rattle.shr_audit_causes.proofs.MovedLaws.{moved_by}
 use Rattle.shr_audit_causes.proofs.moved.moved_of.Given as goal

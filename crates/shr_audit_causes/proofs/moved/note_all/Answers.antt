@@ -1,3 +1,4 @@
+-- SPDX-License-Identifier: GPL-2.0-only
 use Rattle.shr_audit_causes.proofs.OfflinesCommon.{◌+◌, ◌*◌, ◌∙◌, List, ap, subst, take, sum_by, take_all, Entry, moved_of, AreCappedSums}
 use Rattle.shr_audit_causes.proofs.MovedLaws.{entries_more, sums_same}
 use Rattle.shr_audit_causes.proofs.moved.note_all.Goals as goal

@@ -1,3 +1,4 @@
+-- SPDX-License-Identifier: GPL-2.0-only
 use Rattle.shr_audit_causes.proofs.OfflinesCommon.{◌≡◌, ◌+◌, ◌*◌, ℕ, length, take, sum_by, moved_of, AreCappedSums}
 use Rattle.shr_audit_causes.proofs.moved.note_all.Given as goal
 

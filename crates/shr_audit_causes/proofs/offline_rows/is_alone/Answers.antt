@@ -1,3 +1,4 @@
+-- SPDX-License-Identifier: GPL-2.0-only
 use Rattle.std.proofs.Common.{arith}
 use Rattle.shr_audit_causes.proofs.OfflineRowLaws.{alone_decided, spliced_here}
 use Rattle.shr_audit_causes.proofs.offline_rows.is_alone.Goals as goal

@@ -1,3 +1,4 @@
+-- SPDX-License-Identifier: GPL-2.0-only
 use Rattle.shr_audit_causes.proofs.OfflinesCommon.{ℕ, Option, subst, arith, Decides, IsMovedSo}
 use Rattle.shr_audit_causes.proofs.OfflineRowLaws.{answer_there, both_so, carried_fails, no_answer, no_command}
 use Rattle.shr_audit_causes.proofs.offline_rows.is_caused_at.Goals as goal

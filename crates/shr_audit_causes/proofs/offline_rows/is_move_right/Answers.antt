@@ -1,3 +1,4 @@
+-- SPDX-License-Identifier: GPL-2.0-only
 use Rattle.std.proofs.Common.{arith}
 use Rattle.shr_audit_causes.proofs.OfflineRowLaws.{move_over, move_part, move_whole, whole_is}
 use Rattle.shr_audit_causes.proofs.offline_rows.is_move_right.Goals as goal

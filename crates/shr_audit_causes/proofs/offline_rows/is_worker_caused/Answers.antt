@@ -1,3 +1,4 @@
+-- SPDX-License-Identifier: GPL-2.0-only
 use Rattle.shr_audit_causes.proofs.OfflinesCommon.{ℕ, ◌≤◌, subst, arith, upto_all, upto_fails, upto_more, IsOfflineCausedAt}
 use Rattle.shr_audit_causes.proofs.OfflineRowLaws.{past_caused}
 use Rattle.shr_audit_causes.proofs.offline_rows.is_worker_caused.Goals as goal

@@ -1,3 +1,4 @@
+-- SPDX-License-Identifier: GPL-2.0-only
 use Rattle.shr_audit_causes.proofs.OfflinesCommon.{ℕ, ◌<◌, IsOfflineCausedAt}
 use Rattle.shr_audit_causes.proofs.offline_rows.is_worker_caused.Given as goal
 

@@ -1,3 +1,4 @@
+-- SPDX-License-Identifier: GPL-2.0-only
 use Rattle.shr_audit_causes.proofs.OfflineRowLaws.{each_caused}
 use Rattle.shr_audit_causes.proofs.offlines.are_offlines_caused.Goals as goal
 

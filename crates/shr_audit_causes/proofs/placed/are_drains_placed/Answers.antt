@@ -1,3 +1,4 @@
+-- SPDX-License-Identifier: GPL-2.0-only
 use Rattle.shr_audit_causes.proofs.UnregistersCommon.{List, subst, Decides, PlaceEnd, EachFirst, EachItem, IsDrainPlaced}
 use Rattle.shr_audit_case.proofs.Eachs.{each_entry_of}
 use Rattle.shr_audit_causes.proofs.placed.are_drains_placed.Goals as goal

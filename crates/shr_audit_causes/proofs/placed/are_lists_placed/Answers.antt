@@ -1,3 +1,4 @@
+-- SPDX-License-Identifier: GPL-2.0-only
 use Rattle.shr_audit_causes.proofs.UnregistersCommon.{◌≡◌, ℕ, List, Some, slice_get, length, refl, Decides, PlaceEnd, EachFirst, IsFirst, Script, EachItem, Report, IsDrainPlaced}
 use Rattle.std.proofs.lemmas.Option.{slice_get_read}
 use Rattle.shr_audit_formed.proofs.Eachs.{all_at, fails, more_at}

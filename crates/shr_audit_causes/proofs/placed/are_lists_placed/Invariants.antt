@@ -1,3 +1,4 @@
+-- SPDX-License-Identifier: GPL-2.0-only
 use Rattle.shr_audit_causes.proofs.UnregistersCommon.{◌≡◌, ◌<◌, ℕ, Some, slice_get, PlaceEnd, IsFirst, EachItem, IsDrainPlaced}
 use Rattle.shr_audit_causes.proofs.placed.are_lists_placed.Given as goal
 

@@ -1,3 +1,4 @@
+-- SPDX-License-Identifier: GPL-2.0-only
 use Rattle.shr_audit_causes.proofs.OfflinesCommon.{◌≤◌, ℕ, List, Bool, inl, inr, subst, sym, arith, cases_lt, upto_more, AddsSpliced, HasSpliced}
 use Rattle.shr_audit_causes.proofs.SplicedLaws.{adds_next, adds_none, adds_then, has_next, has_still, past_spliced}
 use Rattle.shr_audit_causes.proofs.spliced.note_worker.Goals as goal

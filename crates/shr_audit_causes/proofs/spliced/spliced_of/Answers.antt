@@ -1,3 +1,4 @@
+-- SPDX-License-Identifier: GPL-2.0-only
 use Rattle.shr_audit_causes.proofs.OfflinesCommon.{◌≤◌, ℕ, inl, inr, ap, length, subst, ◌∙◌, false, arith, cases_lt, length-replicate, upto_more, HasSpliced}
 use Rattle.shr_audit_causes.proofs.SplicedLaws.{all_spliced, has_still, only_none, past_workers}
 use Rattle.shr_audit_causes.proofs.spliced.spliced_of.Goals as goal

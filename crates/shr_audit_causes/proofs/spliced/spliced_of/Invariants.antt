@@ -1,3 +1,4 @@
+-- SPDX-License-Identifier: GPL-2.0-only
 use Rattle.shr_audit_causes.proofs.OfflinesCommon.{◌≡◌, ℕ, ◌<◌, length, AreOnlySpliced, HasSpliced}
 use Rattle.shr_audit_causes.proofs.spliced.spliced_of.Given as goal
 

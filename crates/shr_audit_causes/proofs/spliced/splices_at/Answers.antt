@@ -1,3 +1,4 @@
+-- SPDX-License-Identifier: GPL-2.0-only
 use Rattle.shr_audit_causes.proofs.SplicedLaws.{no_answer, no_command, not_spliced, splices}
 use Rattle.shr_audit_causes.proofs.spliced.splices_at.Goals as goal
 

@@ -1,3 +1,4 @@
+-- SPDX-License-Identifier: GPL-2.0-only
 use Rattle.shr_audit_causes.proofs.SumsLaws.{sums_add}
 use Rattle.shr_audit_causes.proofs.sums.add.Goals as goal
 

@@ -1,3 +1,4 @@
+-- SPDX-License-Identifier: GPL-2.0-only
 use Rattle.shr_audit_causes.proofs.UnregistersCommon.{◌+◌, ◌*◌, subst, sym, Entry, Serial, drained_by, AreSums}
 use Rattle.shr_audit_causes.proofs.SumsLaws.{noted_drained}
 use Rattle.shr_audit_causes.proofs.sums.note.Goals as goal

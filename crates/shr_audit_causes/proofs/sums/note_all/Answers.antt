@@ -1,3 +1,4 @@
+-- SPDX-License-Identifier: GPL-2.0-only
 use Rattle.shr_audit_causes.proofs.UnregistersCommon.{◌+◌, ◌*◌, take, sum_by, Serial, drained_by}
 use Rattle.shr_audit_causes.proofs.SumsLaws.{entries_more}
 use Rattle.shr_audit_causes.proofs.sums.note_all.Goals as goal

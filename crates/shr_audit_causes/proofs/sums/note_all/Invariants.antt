@@ -1,3 +1,4 @@
+-- SPDX-License-Identifier: GPL-2.0-only
 use Rattle.shr_audit_causes.proofs.UnregistersCommon.{◌+◌, ◌*◌, ℕ, take, sum_by, Serial, drained_by, AreSums}
 use Rattle.shr_audit_causes.proofs.sums.note_all.Given as goal
 

@@ -1,3 +1,4 @@
+-- SPDX-License-Identifier: GPL-2.0-only
 use Rattle.shr_audit_causes.proofs.SumsLaws.{drained_upto, run_more}
 use Rattle.shr_audit_causes.proofs.sums.sums_of.Goals as goal
 

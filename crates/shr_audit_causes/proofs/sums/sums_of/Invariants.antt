@@ -1,3 +1,4 @@
+-- SPDX-License-Identifier: GPL-2.0-only
 use Rattle.shr_audit_causes.proofs.UnregistersCommon.{◌-◌, ◌≤◌, length, AreSums}
 use Rattle.shr_audit_causes.proofs.SumsLaws.{drained_upto}
 use Rattle.shr_audit_causes.proofs.sums.sums_of.Given as goal

@@ -1,3 +1,4 @@
+-- SPDX-License-Identifier: GPL-2.0-only
 use Rattle.shr_audit_causes.proofs.UnregisterRowLaws.{end_fails, no_answer, no_command, part_there, reason_too}
 use Rattle.shr_audit_causes.proofs.unregister_rows.is_caused_at.Goals as goal
 

@@ -1,3 +1,4 @@
+-- SPDX-License-Identifier: GPL-2.0-only
 use Rattle.shr_audit_causes.proofs.UnregistersCommon.{ℕ, ◌≤◌, subst, arith, upto_all, upto_fails, upto_more, IsUnregisterCausedAt}
 use Rattle.shr_audit_causes.proofs.UnregisterRowLaws.{past_caused}
 use Rattle.shr_audit_causes.proofs.unregister_rows.is_worker_caused.Goals as goal

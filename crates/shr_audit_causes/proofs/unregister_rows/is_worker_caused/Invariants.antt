@@ -1,3 +1,4 @@
+-- SPDX-License-Identifier: GPL-2.0-only
 use Rattle.shr_audit_causes.proofs.UnregistersCommon.{ℕ, ◌<◌, IsUnregisterCausedAt}
 use Rattle.shr_audit_causes.proofs.unregister_rows.is_worker_caused.Given as goal
 

@@ -1,3 +1,4 @@
+-- SPDX-License-Identifier: GPL-2.0-only
 use Rattle.shr_audit_causes.proofs.UnregisterRowLaws.{rows_decided, rows_fail}
 use Rattle.shr_audit_causes.proofs.unregisters.are_unregisters_caused.Goals as goal
 

@@ -1,3 +1,4 @@
+-- SPDX-License-Identifier: GPL-2.0-only
 use Rattle.shr_audit_charges.proofs.BalanceLaw.{balanced}
 use Rattle.shr_audit_charges.proofs.balance.are_balanced.Goals as goal
 

@@ -1,3 +1,4 @@
+-- SPDX-License-Identifier: GPL-2.0-only
 use Rattle.shr_audit_charges.proofs.Common.{ap, ◌∙◌, [], ◌∷◌, ◌++◌, Move, unit, map_end}
 use Rattle.shr_audit_charges.proofs.balance.note_units.Goals as goal
 use Rattle.shr_model.proofs.Lists.{map_step}

@@ -1,3 +1,4 @@
+-- SPDX-License-Identifier: GPL-2.0-only
 use Rattle.shr_audit_charges.proofs.Common.{◌≡◌, ◌++◌, map, take, unit}
 use Rattle.shr_audit_charges.proofs.balance.note_units.Given as goal
 

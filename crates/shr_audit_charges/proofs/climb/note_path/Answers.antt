@@ -1,3 +1,4 @@
+-- SPDX-License-Identifier: GPL-2.0-only
 use Rattle.shr_audit_charges.proofs.Common.{◌++◌, ◌<◌, ℕ, sym, ap, subst, length, arith, path_of, keys_with}
 use Rattle.shr_audit_charges.proofs.PathsLaw.{start_there, climbed, on_top}
 use Rattle.shr_audit_charges.proofs.climb.note_path.Goals as goal

@@ -1,3 +1,4 @@
+-- SPDX-License-Identifier: GPL-2.0-only
 use Rattle.shr_audit_charges.proofs.Common.{◌≡◌, ◌<◌, ◌++◌, length, path_of, keys_with, path_keys}
 use Rattle.shr_audit_charges.proofs.climb.note_path.Given as goal
 

@@ -1,3 +1,4 @@
+-- SPDX-License-Identifier: GPL-2.0-only
 use Rattle.shr_audit_charges.proofs.Common.{◌+◌, List, subst, sym, Usage, AreNone}
 use Rattle.shr_audit_charges.proofs.HistoryLaw.{none_more}
 use Rattle.shr_audit_charges.proofs.history.first_usages.Goals as goal

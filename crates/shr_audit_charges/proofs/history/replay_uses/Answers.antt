@@ -1,3 +1,4 @@
+-- SPDX-License-Identifier: GPL-2.0-only
 use Rattle.shr_audit_charges.proofs.Common.{arith, ap, sym, ◌∙◌, List, slice_get, Usage}
 use Rattle.shr_audit_charges.proofs.HistoryLaw.{none_yet, one_more, not_one_more, small_usages}
 use Rattle.shr_audit_charges.proofs.history.replay_uses.Goals as goal

@@ -1,3 +1,4 @@
+-- SPDX-License-Identifier: GPL-2.0-only
 use Rattle.shr_audit_charges.proofs.Common.{take, AreCharged, AreUsagesOf}
 use Rattle.shr_audit_charges.proofs.history.replay_uses.Given as goal
 

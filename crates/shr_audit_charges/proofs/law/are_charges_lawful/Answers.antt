@@ -1,3 +1,4 @@
+-- SPDX-License-Identifier: GPL-2.0-only
 use Rattle.shr_audit_charges.proofs.WholeLaw.{decided}
 use Rattle.shr_audit_charges.proofs.law.are_charges_lawful.Goals as goal
 

@@ -1,3 +1,4 @@
+-- SPDX-License-Identifier: GPL-2.0-only
 use Rattle.shr_audit_charges.proofs.Common.{ℕ, List, Option, ap, length, subst, ◌∙◌, Decides, parents_of, AreFinal, AreWithin, AreOwnRight}
 use Rattle.shr_audit_charges.proofs.WholeLaw.{uses_decided}
 use Rattle.shr_audit_charges.proofs.law.are_uses_lawful.Goals as goal

@@ -1,3 +1,4 @@
+-- SPDX-License-Identifier: GPL-2.0-only
 use Rattle.shr_audit_charges.proofs.Common.{◌≡◌, None, ◌∷◌, map, take, GroupDecl}
 use Rattle.shr_audit_charges.proofs.law.limits_of.Given as goal
 

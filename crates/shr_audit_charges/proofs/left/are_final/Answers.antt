@@ -1,3 +1,4 @@
+-- SPDX-License-Identifier: GPL-2.0-only
 use Rattle.shr_audit_charges.proofs.Common.{false, ◌++◌, List, ℕ, ap, subst, ◌∙◌, flat_map, Decides, AreBalanced, up_keys, down_keys}
 use Rattle.shr_audit_charges.proofs.LeftLaw.{final_decided}
 use Rattle.shr_audit_charges.proofs.left.are_final.Goals as goal

@@ -1,3 +1,4 @@
+-- SPDX-License-Identifier: GPL-2.0-only
 use Rattle.shr_audit_charges.proofs.Common.{◌≡◌, ◌<◌, ℕ, Some, slice_get, Usage, IsWithinLimit, limit_in}
 use Rattle.shr_audit_charges.proofs.left.are_within.Given as goal
 

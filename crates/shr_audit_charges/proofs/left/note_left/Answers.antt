@@ -1,3 +1,4 @@
+-- SPDX-License-Identifier: GPL-2.0-only
 use Rattle.shr_audit_charges.proofs.Common.{◌++◌, List, ℕ, ap, subst, sym, ◌∙◌, flat_map, PlaceEnd, IsTree, left_keys, tag_keys, flat_all}
 use Rattle.shr_audit_case.specs.declared.tags.Tag.{Tag}
 use Rattle.shr_audit_charges.proofs.left.note_left.Goals as goal

@@ -1,3 +1,4 @@
+-- SPDX-License-Identifier: GPL-2.0-only
 use Rattle.shr_audit_charges.proofs.Common.{true, ◌<◌, ◌++◌, List, ℕ, ap, length, sym, subst, ◌∙◌, flat_map, Decides, AllByRecursion, UseStep, IsTree, AreBalanced, workers_keys, up_keys, down_keys}
 use Rattle.shr_audit_charges.proofs.NetsWhole.{nets_decided}
 use Rattle.shr_audit_charges.proofs.nets.are_nets.Goals as goal

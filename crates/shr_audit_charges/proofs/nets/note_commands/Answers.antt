@@ -1,3 +1,4 @@
+-- SPDX-License-Identifier: GPL-2.0-only
 use Rattle.shr_audit_charges.proofs.Workers.{commands_more, commands_all}
 use Rattle.shr_audit_charges.proofs.nets.note_commands.Goals as goal
 

@@ -1,3 +1,4 @@
+-- SPDX-License-Identifier: GPL-2.0-only
 use Rattle.shr_audit_charges.proofs.Common.{◌≡◌, ◌++◌, take, commands_keys}
 use Rattle.shr_audit_charges.proofs.nets.note_commands.Given as goal
 

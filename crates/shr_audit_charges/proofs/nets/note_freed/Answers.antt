@@ -1,3 +1,4 @@
+-- SPDX-License-Identifier: GPL-2.0-only
 use Rattle.shr_audit_charges.proofs.Common.{freed_keys, flat_all}
 use Rattle.shr_audit_charges.proofs.nets.note_freed.Goals as goal
 use Rattle.shr_model.proofs.Lists.{flat_copied}

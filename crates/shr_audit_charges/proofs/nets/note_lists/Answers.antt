@@ -1,3 +1,4 @@
+-- SPDX-License-Identifier: GPL-2.0-only
 use Rattle.shr_audit_charges.proofs.Common.{◌++◌, List, ℕ, ap, subst, sym, ◌∙◌, flat_map, PlaceEnd, Entry, IsTree, FreedTag, journals_of, freed_keys, place_keys, flat_all}
 use Rattle.shr_audit_charges.proofs.nets.note_lists.Goals as goal
 use Rattle.shr_model.proofs.Lists.{flat_more}

@@ -1,3 +1,4 @@
+-- SPDX-License-Identifier: GPL-2.0-only
 use Rattle.shr_audit_charges.proofs.Common.{◌≡◌, ◌++◌, take, flat_map, PlaceEnd, place_keys}
 use Rattle.shr_audit_charges.proofs.nets.note_lists.Given as goal
 

@@ -1,3 +1,4 @@
+-- SPDX-License-Identifier: GPL-2.0-only
 use Rattle.shr_audit_charges.proofs.Common.{◌++◌, List, ap, sym, ◌∙◌, Command, WorkerScript, commands_keys}
 use Rattle.shr_audit_charges.proofs.Workers.{workers_more, workers_all}
 use Rattle.shr_audit_charges.proofs.nets.note_workers.Goals as goal

@@ -1,3 +1,4 @@
+-- SPDX-License-Identifier: GPL-2.0-only
 use Rattle.std.proofs.Common.{refl, arith}
 use Rattle.shr_audit_charges.proofs.OwnLaw.{start, step_back, not_back, few_next, all_right}
 use Rattle.shr_audit_charges.proofs.own.are_own_right.Goals as goal

@@ -1,3 +1,4 @@
+-- SPDX-License-Identifier: GPL-2.0-only
 use Rattle.std.proofs.Common.{◌≤◌, drop, length}
 use Rattle.shr_audit_charges.proofs.OwnLaw.{AreFollowed, AreLater}
 use Rattle.shr_audit_charges.proofs.own.are_own_right.Given as goal

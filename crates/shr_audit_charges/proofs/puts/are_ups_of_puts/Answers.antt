@@ -1,3 +1,4 @@
+-- SPDX-License-Identifier: GPL-2.0-only
 use Rattle.shr_audit_charges.specs.Puts.{IsUpOfPut}
 use Rattle.shr_audit_formed.proofs.Eachs.{each_all, each_copied}
 use Rattle.shr_audit_charges.proofs.puts.are_ups_of_puts.Goals as goal

@@ -1,3 +1,4 @@
+-- SPDX-License-Identifier: GPL-2.0-only
 use Rattle.shr_audit_charges.proofs.Common.{◌≡◌, ◌<◌, ℕ, Some, slice_get, UseStep, IsUpOfPut}
 use Rattle.shr_audit_charges.proofs.puts.are_ups_of_puts.Given as goal
 

@@ -1,3 +1,4 @@
+-- SPDX-License-Identifier: GPL-2.0-only
 use Rattle.std.proofs.Common.{arith}
 use Rattle.shr_audit_charges.proofs.TreeLaw.{first_none, first_more, first_all}
 use Rattle.shr_audit_charges.proofs.tree.first_states.Goals as goal

@@ -1,3 +1,4 @@
+-- SPDX-License-Identifier: GPL-2.0-only
 use Rattle.shr_audit_charges.proofs.TreeLaw.{AreFirstTo}
 use Rattle.shr_audit_charges.proofs.tree.first_states.Given as goal
 

@@ -1,3 +1,4 @@
+-- SPDX-License-Identifier: GPL-2.0-only
 use Rattle.shr_audit_charges.proofs.Common.{◌<◌, ℕ, IsUndone}
 use Rattle.shr_audit_charges.proofs.tree.has_undone.Given as goal
 

@@ -1,3 +1,4 @@
+-- SPDX-License-Identifier: GPL-2.0-only
 use Rattle.std.proofs.Common.{refl}
 use Rattle.shr_audit_charges.proofs.TreeLaw.{first_of, one_more, not_one_more, whole}
 use Rattle.shr_audit_charges.proofs.tree.is_tree_journal.Goals as goal

@@ -1,3 +1,4 @@
+-- SPDX-License-Identifier: GPL-2.0-only
 use Rattle.shr_audit_charges.proofs.Common.{take, IsTreeJournal, AreGroupStatesOf, hierarchy}
 use Rattle.shr_audit_charges.proofs.tree.is_tree_journal.Given as goal
 

@@ -1,3 +1,4 @@
+-- SPDX-License-Identifier: GPL-2.0-only
 use Rattle.shr_audit_charges.proofs.Common.{down_keys, flat_all}
 use Rattle.shr_audit_charges.proofs.uses.note_downs.Goals as goal
 use Rattle.shr_model.proofs.Lists.{flat_copied}

@@ -1,3 +1,4 @@
+-- SPDX-License-Identifier: GPL-2.0-only
 use Rattle.shr_audit_charges.proofs.Common.{◌≡◌, ◌++◌, take, flat_map, up_keys}
 use Rattle.shr_audit_charges.proofs.uses.note_ups.Given as goal
 

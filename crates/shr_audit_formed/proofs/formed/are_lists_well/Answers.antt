@@ -1,3 +1,4 @@
+-- SPDX-License-Identifier: GPL-2.0-only
 use Rattle.shr_audit_formed.proofs.Common.{◌<◌, List, length, subst, Decides, PlaceEnd, UnitsEnd, IsPlaceUpTo, units_place, EachItem, Adjacent, IsListFormed, AreListsFormed}
 use Rattle.shr_audit_formed.proofs.Eachs.{fails}
 use Rattle.shr_audit_formed.proofs.formed.are_lists_well.Goals as goal

@@ -1,3 +1,4 @@
+-- SPDX-License-Identifier: GPL-2.0-only
 use Rattle.shr_audit_formed.specs.Formed.{IsPartFormed}
 use Rattle.shr_audit_formed.proofs.Eachs.{more_at, all_at}
 use Rattle.shr_audit_formed.proofs.formed.are_parts_well.Goals as goal

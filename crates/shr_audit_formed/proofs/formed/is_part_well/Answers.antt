@@ -1,3 +1,4 @@
+-- SPDX-License-Identifier: GPL-2.0-only
 use Rattle.shr_audit_formed.proofs.Common.{List, length, subst, Decides, Answered, WalkRecord, IsPartFormed, AreWalksFormed}
 use Rattle.shr_audit_formed.proofs.Eachs.{fails}
 use Rattle.shr_audit_formed.proofs.formed.is_part_well.Goals as goal

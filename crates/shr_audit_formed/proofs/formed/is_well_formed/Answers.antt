@@ -1,3 +1,4 @@
+-- SPDX-License-Identifier: GPL-2.0-only
 use Rattle.shr_audit_formed.proofs.Common.{List, subst, Decides, WorkerPart, IsWellFormed, ArePartsFormed, IsLastFormed, AreHeadsFormed, AreListsFormed, AreMapsPrinted}
 use Rattle.shr_audit_formed.proofs.Eachs.{fails}
 use Rattle.shr_audit_formed.proofs.WellParts.{heads_of, parts_of, last_of, lists_of, maps_of, tables_of, well_of}

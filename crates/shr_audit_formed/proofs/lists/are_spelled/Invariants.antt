@@ -1,3 +1,4 @@
+-- SPDX-License-Identifier: GPL-2.0-only
 use Rattle.shr_audit_formed.proofs.Common.{◌≡◌, ◌+◌, length, AllByRecursion, IsSpelled}
 use Rattle.shr_audit_formed.proofs.lists.are_spelled.Given as goal
 

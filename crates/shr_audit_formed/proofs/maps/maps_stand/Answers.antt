@@ -1,3 +1,4 @@
+-- SPDX-License-Identifier: GPL-2.0-only
 use Rattle.shr_audit_formed.proofs.Common.{range_with_len, bit_places, wheres}
 use Rattle.shr_audit_formed.proofs.Strip.{nothing_left, none_met, empty_decides}
 use Rattle.shr_audit_formed.proofs.maps.maps_stand.Goals as goal

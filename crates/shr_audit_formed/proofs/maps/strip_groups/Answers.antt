@@ -1,3 +1,4 @@
+-- SPDX-License-Identifier: GPL-2.0-only
 use Rattle.shr_audit_formed.proofs.Common.{◌+◌, ◌-◌, refl, arith, wheres, unit_places}
 use Rattle.shr_audit_formed.proofs.Strip.{met, not_met}
 use Rattle.shr_audit_formed.proofs.maps.strip_groups.Goals as goal

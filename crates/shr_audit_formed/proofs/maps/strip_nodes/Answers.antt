@@ -1,3 +1,4 @@
+-- SPDX-License-Identifier: GPL-2.0-only
 use Rattle.shr_audit_formed.proofs.Common.{arith, wheres, group_places}
 use Rattle.shr_audit_formed.proofs.Strip.{met, not_met}
 use Rattle.shr_audit_formed.proofs.maps.strip_nodes.Goals as goal

@@ -1,3 +1,4 @@
+-- SPDX-License-Identifier: GPL-2.0-only
 use Rattle.shr_audit_formed.proofs.Common.{◌≡◌, ◌++◌, flat_map, range_with_len, wheres, group_places}
 use Rattle.shr_audit_formed.proofs.maps.strip_nodes.Given as goal
 

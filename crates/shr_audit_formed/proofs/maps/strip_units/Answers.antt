@@ -1,3 +1,4 @@
+-- SPDX-License-Identifier: GPL-2.0-only
 use Rattle.shr_audit_formed.proofs.Common.{ℕ, ◌+◌, ◌++◌, List, [], ◌∷◌, sym, ap, subst, ◌∙◌, arith, range_with_len, Where, at_unit, wheres, IsNotStripped}
 use Rattle.shr_audit_formed.proofs.Strip.{met, not_met, singles}
 use Rattle.shr_audit_formed.proofs.maps.strip_units.Goals as goal

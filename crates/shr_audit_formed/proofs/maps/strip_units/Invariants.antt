@@ -1,3 +1,4 @@
+-- SPDX-License-Identifier: GPL-2.0-only
 use Rattle.shr_audit_formed.proofs.Common.{◌≡◌, ◌++◌, wheres, unit_places}
 use Rattle.shr_audit_formed.proofs.maps.strip_units.Given as goal
 

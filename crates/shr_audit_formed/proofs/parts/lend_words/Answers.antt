@@ -1,3 +1,4 @@
+-- SPDX-License-Identifier: GPL-2.0-only
 use Rattle.shr_laws.specs.WellFormed.{LendsWord}
 use Rattle.shr_audit_formed.proofs.Eachs.{each_more, each_all}
 use Rattle.shr_audit_formed.proofs.parts.lend_words.Goals as goal

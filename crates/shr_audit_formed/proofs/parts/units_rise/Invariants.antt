@@ -1,3 +1,4 @@
+-- SPDX-License-Identifier: GPL-2.0-only
 use Rattle.shr_audit_formed.proofs.Common.{◌≡◌, ◌+◌, ◌<◌, ℕ, Some, slice_get, MapSeen}
 use Rattle.shr_audit_formed.proofs.parts.units_rise.Given as goal
 

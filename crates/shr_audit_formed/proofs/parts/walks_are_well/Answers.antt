@@ -1,3 +1,4 @@
+-- SPDX-License-Identifier: GPL-2.0-only
 use Rattle.shr_audit_formed.specs.Each.{IsWalkFormed}
 use Rattle.shr_audit_formed.proofs.Eachs.{each_more, each_all}
 use Rattle.shr_audit_formed.proofs.parts.walks_are_well.Goals as goal

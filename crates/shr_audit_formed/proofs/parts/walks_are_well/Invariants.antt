@@ -1,3 +1,4 @@
+-- SPDX-License-Identifier: GPL-2.0-only
 use Rattle.shr_audit_formed.proofs.Common.{◌≡◌, ◌<◌, ℕ, Some, slice_get, WalkRecord, IsWalkFormed}
 use Rattle.shr_audit_formed.proofs.parts.walks_are_well.Given as goal
 

@@ -1,3 +1,4 @@
+-- SPDX-License-Identifier: GPL-2.0-only
 use Rattle.shr_audit_formed.proofs.Common.{◌≡◌, ◌<◌, ℕ, Some, true, List, slice_get, is_name}
 use Rattle.shr_audit_formed.proofs.tables.are_names.Given as goal
 

@@ -1,3 +1,4 @@
+-- SPDX-License-Identifier: GPL-2.0-only
 use Rattle.std.proofs.Common.{◌≡◌, ◌<◌, ◌^◌, ℕ, Some, slice_get}
 use Rattle.shr_audit_formed.proofs.tables.lookups_fit.Given as goal
 

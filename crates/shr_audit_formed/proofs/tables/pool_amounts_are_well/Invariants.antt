@@ -1,3 +1,4 @@
+-- SPDX-License-Identifier: GPL-2.0-only
 use Rattle.shr_audit_formed.proofs.Common.{◌≡◌, ◌<◌, ℕ, Some, slice_get, PlaceAmount, IsPoolAmountWell}
 use Rattle.shr_audit_formed.proofs.tables.pool_amounts_are_well.Given as goal
 

@@ -1,3 +1,4 @@
+-- SPDX-License-Identifier: GPL-2.0-only
 use Rattle.shr_audit_formed.proofs.Common.{◌≡◌, ◌<◌, ℕ, Some, length, slice_get, UnitsEnd}
 use Rattle.shr_audit_formed.proofs.tables.units_are_entered.Given as goal
 

@@ -1,3 +1,4 @@
+-- SPDX-License-Identifier: GPL-2.0-only
 use Rattle.shr_audit_fresh.proofs.Common.{ℕ, ◌+◌, Option, arith, subst, sym, option_to_list, FloorWith}
 use Rattle.shr_audit_fresh.proofs.floors.floor_with.Goals as goal
 

@@ -1,3 +1,4 @@
+-- SPDX-License-Identifier: GPL-2.0-only
 use Rattle.shr_audit_fresh.proofs.Common.{◌<◌, ℕ, List, length, get_or, ap, ◌∙◌, subst, arith, option_to_list, get_or_default, WalkRecord, walk_cited, FloorWith}
 use Rattle.shr_audit_fresh.proofs.WalkFloors.{no_command, one_noted, other_worker}
 use Rattle.shr_audit_fresh.proofs.floors.note_walk.Goals as goal

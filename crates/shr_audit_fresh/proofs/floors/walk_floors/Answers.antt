@@ -1,3 +1,4 @@
+-- SPDX-License-Identifier: GPL-2.0-only
 use Rattle.shr_audit_fresh.proofs.Common.{List, ◌∷◌, [], ◌++◌, take, sym, ap, subst, ◌∙◌, take_more, take_all, WalkRecord, AreFloors}
 use Rattle.shr_audit_fresh.proofs.WalkFloors.{none_floored}
 use Rattle.shr_audit_fresh.proofs.floors.walk_floors.Goals as goal

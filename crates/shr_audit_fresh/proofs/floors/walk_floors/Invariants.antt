@@ -1,3 +1,4 @@
+-- SPDX-License-Identifier: GPL-2.0-only
 use Rattle.shr_audit_fresh.proofs.Common.{◌≡◌, length, take, AreFloors}
 use Rattle.shr_audit_fresh.proofs.floors.walk_floors.Given as goal
 

@@ -1,3 +1,4 @@
+-- SPDX-License-Identifier: GPL-2.0-only
 use Rattle.std.proofs.Common.{◌≡◌, ℕ, ◌+◌, List, [], ◌∷◌, length, length-append, get_or, sym, ap, subst, ◌∙◌, arith}
 use Rattle.shr_audit_fresh.proofs.floors.zeros.Goals as goal
 use Rattle.shr_model.proofs.Lists.{zero_more}

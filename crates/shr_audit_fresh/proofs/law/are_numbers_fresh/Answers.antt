@@ -1,3 +1,4 @@
+-- SPDX-License-Identifier: GPL-2.0-only
 use Rattle.shr_audit_fresh.proofs.Common.{List, subst, flat_map, Decides, Answered, fails, pool_seen, tree_seen, answers_of, AreNotFalling, AreNumbersFresh, IsOnSeen, IsOwnBelow}
 use Rattle.shr_audit_fresh.proofs.law.are_numbers_fresh.Goals as goal
 

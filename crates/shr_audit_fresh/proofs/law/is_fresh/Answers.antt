@@ -1,3 +1,4 @@
+-- SPDX-License-Identifier: GPL-2.0-only
 use Rattle.shr_audit_fresh.proofs.Common.{ℕ, ◌≤◌, List, true, false, sym, subst, arith, TreeEntry, Cited, AreCited, EachItem, IsTreeNumbered, IsWorkerFresh}
 use Rattle.shr_audit_reasons.specs.declared.cites.What.TheVariants as say
 use Rattle.shr_audit_case.proofs.Upto.{upto_all, upto_fails, upto_more}

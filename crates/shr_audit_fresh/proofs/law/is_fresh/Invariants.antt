@@ -1,3 +1,4 @@
+-- SPDX-License-Identifier: GPL-2.0-only
 use Rattle.shr_audit_fresh.proofs.Common.{ℕ, ◌<◌, IsWorkerFresh}
 use Rattle.shr_audit_fresh.proofs.law.is_fresh.Given as goal
 

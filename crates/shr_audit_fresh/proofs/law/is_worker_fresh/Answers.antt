@@ -1,3 +1,4 @@
+-- SPDX-License-Identifier: GPL-2.0-only
 use Rattle.shr_audit_formed.proofs.Eachs.{fails}
 use Rattle.shr_audit_fresh.specs.Worker.{AreNumbersFresh, IsBeginStarted, IsWorkerRefused, IsWorkerFresh}
 use Rattle.shr_audit_fresh.proofs.law.is_worker_fresh.Goals as goal

@@ -1,3 +1,4 @@
+-- SPDX-License-Identifier: GPL-2.0-only
 use Rattle.shr_laws.specs.Parts.{serial_of}
 use Rattle.shr_audit_fresh.proofs.MadeLaws.{no_answer_shown, no_command_shown, shown_here}
 use Rattle.shr_audit_fresh.proofs.made.made_at.Goals as goal

@@ -1,3 +1,4 @@
+-- SPDX-License-Identifier: GPL-2.0-only
 use Rattle.std.proofs.Common.{◌∙◌}
 use Rattle.shr_audit_fresh.proofs.MadeLaws.{found_shown, made_group}
 use Rattle.shr_audit_fresh.proofs.made.made_shown.Goals as goal

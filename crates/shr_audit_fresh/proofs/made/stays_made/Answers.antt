@@ -1,3 +1,4 @@
+-- SPDX-License-Identifier: GPL-2.0-only
 use Rattle.shr_audit_fresh.proofs.Common.{ℕ, ◌≤◌, subst, arith, StaysMadeAt}
 use Rattle.shr_audit_fresh.proofs.MadeLaws.{made_fails, made_next, made_start, past_made, stays_here}
 use Rattle.shr_audit_case.proofs.Upto.{upto_all, upto_more}

@@ -1,3 +1,4 @@
+-- SPDX-License-Identifier: GPL-2.0-only
 use Rattle.shr_audit_fresh.proofs.Common.{ℕ, ◌<◌, AreLeastOfGroups, StaysMadeAt}
 use Rattle.shr_audit_fresh.proofs.MadeLaws.{MadeBefore}
 use Rattle.shr_audit_fresh.proofs.made.stays_made.Given as goal

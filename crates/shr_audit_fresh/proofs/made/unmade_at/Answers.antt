@@ -1,3 +1,4 @@
+-- SPDX-License-Identifier: GPL-2.0-only
 use Rattle.shr_laws.specs.Parts.{serial_of}
 use Rattle.shr_audit_fresh.proofs.MadeLaws.{says_none, says_so}
 use Rattle.shr_audit_fresh.proofs.made.unmade_at.Goals as goal

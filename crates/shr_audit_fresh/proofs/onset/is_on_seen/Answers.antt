@@ -1,3 +1,4 @@
+-- SPDX-License-Identifier: GPL-2.0-only
 use Rattle.shr_audit_fresh.proofs.Common.{ℕ, ◌≤◌, subst, arith, IsOnSeenAt}
 use Rattle.shr_audit_fresh.proofs.OnLaws.{past_on}
 use Rattle.shr_audit_case.proofs.Upto.{upto_all, upto_fails, upto_more}

@@ -1,3 +1,4 @@
+-- SPDX-License-Identifier: GPL-2.0-only
 use Rattle.shr_audit_fresh.proofs.Common.{ℕ, ◌<◌, IsOnSeenAt}
 use Rattle.shr_audit_fresh.proofs.onset.is_on_seen.Given as goal
 

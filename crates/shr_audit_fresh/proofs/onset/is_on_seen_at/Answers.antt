@@ -1,3 +1,4 @@
+-- SPDX-License-Identifier: GPL-2.0-only
 use Rattle.std.proofs.Common.{ℕ, ◌<◌, ◌≤◌, subst}
 use Rattle.shr_audit_fresh.proofs.OnLaws.{no_answer, no_command, on_seen}
 use Rattle.shr_audit_fresh.proofs.onset.is_on_seen_at.Goals as goal

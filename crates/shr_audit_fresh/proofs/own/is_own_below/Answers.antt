@@ -1,3 +1,4 @@
+-- SPDX-License-Identifier: GPL-2.0-only
 use Rattle.shr_audit_fresh.proofs.Common.{ℕ, ◌≤◌, List, subst, Answered, Report, of_answer, pool_made, pool_seen, serial_of, FloorWith}
 use Rattle.shr_audit_fresh.proofs.Answering.{of_past}
 use Rattle.shr_audit_fresh.proofs.FloorLaws.{floor_next, floor_start, known_all, known_fails, known_more, known_none, reaches_below}

@@ -1,3 +1,4 @@
+-- SPDX-License-Identifier: GPL-2.0-only
 use Rattle.shr_audit_fresh.proofs.Common.{Answered, of_answer, pool_made, pool_seen, serial_of, AreKnownBelow, IsFloorBefore}
 use Rattle.shr_audit_fresh.proofs.own.is_own_below.Given as goal
 

@@ -1,3 +1,4 @@
+-- SPDX-License-Identifier: GPL-2.0-only
 use Rattle.shr_audit_fresh.proofs.Common.{ℕ, ◌<◌, ◌≤◌, List, length, get_or, subst, ◌∙◌, arith, Decides, get_or_default, Answered, Report, of_answer, shown_by, tree_cited, tree_seen, serial_of, walks_of, FloorWith, IsHigher, Reaches, walks_cite}
 use Rattle.shr_audit_fresh.proofs.Answering.{of_past}
 use Rattle.shr_audit_fresh.proofs.FloorLaws.{floor_next, floor_start, known_all, known_fails, known_more, known_none, reaches_below, shown_floor}

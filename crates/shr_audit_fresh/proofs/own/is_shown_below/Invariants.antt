@@ -1,3 +1,4 @@
+-- SPDX-License-Identifier: GPL-2.0-only
 use Rattle.shr_audit_fresh.proofs.Common.{of_answer, shown_by, tree_seen, serial_of, AreKnownBelow, IsFloorBefore}
 use Rattle.shr_audit_fresh.proofs.own.is_shown_below.Given as goal
 

@@ -1,3 +1,4 @@
+-- SPDX-License-Identifier: GPL-2.0-only
 use Rattle.shr_audit_fresh.proofs.Common.{List, Option, ℕ, subst, option_to_list, Decides, pool_told, Reaches}
 use Rattle.shr_audit_fresh.proofs.FloorLaws.{reach_both, reach_fails}
 use Rattle.shr_audit_fresh.proofs.own.pool_reaches.Goals as goal

@@ -1,3 +1,4 @@
+-- SPDX-License-Identifier: GPL-2.0-only
 use Rattle.shr_audit_fresh.proofs.Common.{List, ℕ, refl, sym, subst, Decides, pool_seen, serial_of, Reaches}
 use Rattle.shr_audit_fresh.proofs.Answering.{of_answered, of_none}
 use Rattle.shr_audit_fresh.proofs.own.pool_reaches_at.Goals as goal

@@ -1,3 +1,4 @@
+-- SPDX-License-Identifier: GPL-2.0-only
 use Rattle.shr_audit_fresh.proofs.Common.{ℕ, ◌<◌, IsRefusedAt}
 use Rattle.shr_audit_fresh.proofs.refused.is_refused.Given as goal
 

@@ -1,3 +1,4 @@
+-- SPDX-License-Identifier: GPL-2.0-only
 use Rattle.shr_audit_fresh.proofs.Common.{ℕ, Option, ap, sym, ◌∙◌, option_and_then, asks_online, is_first_before}
 use Rattle.shr_audit_fresh.proofs.RefusedLaws.{asks_none, not_shown, was_shown}
 use Rattle.shr_audit_fresh.proofs.refused.is_refused_at.Goals as goal

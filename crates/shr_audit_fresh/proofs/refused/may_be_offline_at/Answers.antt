@@ -1,3 +1,4 @@
+-- SPDX-License-Identifier: GPL-2.0-only
 use Rattle.shr_audit_fresh.proofs.Common.{Option, sym, subst, Decides, IsSomeAnd, Reply, MayBeOffline, serial_of}
 use Rattle.shr_audit_fresh.proofs.Answering.{reply_answered, reply_none}
 use Rattle.shr_audit_fresh.proofs.refused.may_be_offline_at.Goals as goal

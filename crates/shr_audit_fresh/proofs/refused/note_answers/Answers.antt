@@ -1,3 +1,4 @@
+-- SPDX-License-Identifier: GPL-2.0-only
 use Rattle.std.proofs.Common.{ℕ, ◌≤◌, subst}
 use Rattle.shr_audit_fresh.proofs.RefusedLaws.{shown_end, shown_next, shown_start}
 use Rattle.shr_audit_fresh.proofs.refused.note_answers.Goals as goal

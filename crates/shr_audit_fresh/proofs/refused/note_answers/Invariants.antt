@@ -1,3 +1,4 @@
+-- SPDX-License-Identifier: GPL-2.0-only
 use Rattle.shr_audit_fresh.specs.Firsts.{AreLeastOfGroups, HasNoFirsts}
 use Rattle.shr_audit_fresh.proofs.RefusedLaws.{ShownBefore}
 use Rattle.shr_audit_fresh.proofs.refused.note_answers.Given as goal

@@ -1,3 +1,4 @@
+-- SPDX-License-Identifier: GPL-2.0-only
 use Rattle.shr_audit_fresh.proofs.Common.{ap, ◌∙◌, WalkRecord, walk_cited}
 use Rattle.shr_audit_fresh.proofs.RefusedLaws.{other_walk, own_walk}
 use Rattle.shr_audit_fresh.proofs.refused.note_walk.Goals as goal

@@ -1,3 +1,4 @@
+-- SPDX-License-Identifier: GPL-2.0-only
 use Rattle.shr_audit_fresh.proofs.Common.{List, ◌∷◌, [], ◌++◌, take, sym, ap, subst, ◌∙◌, take_more, take_all, WalkRecord, AreLeastOfGroups, ShownByWalks}
 use Rattle.shr_audit_fresh.proofs.refused.note_walks.Goals as goal
 

@@ -1,3 +1,4 @@
+-- SPDX-License-Identifier: GPL-2.0-only
 use Rattle.shr_audit_fresh.proofs.Common.{[], take, AreLeastOfGroups, ShownByWalks}
 use Rattle.shr_audit_fresh.proofs.refused.note_walks.Given as goal
 

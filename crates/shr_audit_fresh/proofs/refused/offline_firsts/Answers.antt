@@ -1,3 +1,4 @@
+-- SPDX-License-Identifier: GPL-2.0-only
 use Rattle.shr_audit_fresh.proofs.RefusedLaws.{shown_offline}
 use Rattle.shr_audit_fresh.proofs.refused.offline_firsts.Goals as goal
 

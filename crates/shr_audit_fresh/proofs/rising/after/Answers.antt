@@ -1,3 +1,4 @@
+-- SPDX-License-Identifier: GPL-2.0-only
 use Rattle.shr_audit_fresh.proofs.Common.{ℕ, Option, Some, None, arith, subst, sym, option_to_list, After}
 use Rattle.shr_audit_fresh.proofs.rising.after.Goals as goal
 

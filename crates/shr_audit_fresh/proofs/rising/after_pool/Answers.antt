@@ -1,3 +1,4 @@
+-- SPDX-License-Identifier: GPL-2.0-only
 use Rattle.shr_audit_fresh.proofs.Common.{List, Option, None, ℕ, ◌++◌, subst, option_to_list, pool_told, After}
 use Rattle.shr_audit_fresh.proofs.RisingLaws.{after_both, after_fall}
 use Rattle.shr_audit_fresh.proofs.rising.after_pool.Goals as goal

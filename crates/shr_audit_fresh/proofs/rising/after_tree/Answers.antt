@@ -1,3 +1,4 @@
+-- SPDX-License-Identifier: GPL-2.0-only
 use Rattle.shr_audit_fresh.proofs.Common.{List, ℕ, subst, After}
 use Rattle.shr_audit_fresh.proofs.rising.after_tree.Goals as goal
 

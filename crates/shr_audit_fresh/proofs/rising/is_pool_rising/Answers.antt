@@ -1,3 +1,4 @@
+-- SPDX-License-Identifier: GPL-2.0-only
 use Rattle.shr_audit_fresh.proofs.Common.{Some, None, subst, Answered, pool_seen, After}
 use Rattle.shr_audit_fresh.proofs.RisingLaws.{all_rise, falls_here, none_yet, one_further}
 use Rattle.shr_audit_fresh.proofs.rising.is_pool_rising.Goals as goal

@@ -1,3 +1,4 @@
+-- SPDX-License-Identifier: GPL-2.0-only
 use Rattle.shr_audit_fresh.proofs.Common.{Some, take, flat_map, tree_seen, After}
 use Rattle.shr_audit_fresh.proofs.rising.is_tree_rising.Given as goal
 

@@ -1,3 +1,4 @@
+-- SPDX-License-Identifier: GPL-2.0-only
 use Rattle.std.proofs.Common.{sym, ◌∙◌}
 use Rattle.shr_audit_fresh.proofs.FirstLaws.{begin_none, begin_shown}
 use Rattle.shr_audit_fresh.proofs.shown.begin_of.Goals as goal

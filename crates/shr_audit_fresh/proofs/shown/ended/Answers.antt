@@ -1,3 +1,4 @@
+-- SPDX-License-Identifier: GPL-2.0-only
 use Rattle.shr_audit_fresh.proofs.Common.{◌≡◌, ℕ, subst, sym, ◌||◌, ◌==◌, TreeEntry, is_begin, is_done}
 use Rattle.shr_audit_fresh.proofs.shown.ended.Goals as goal
 use Rattle.std.proofs.Math.Bool.{or-false}

@@ -1,3 +1,4 @@
+-- SPDX-License-Identifier: GPL-2.0-only
 use Rattle.std.proofs.Common.{sym, ◌∙◌}
 use Rattle.shr_audit_fresh.proofs.FirstLaws.{offline_none, offline_shown}
 use Rattle.shr_audit_fresh.proofs.shown.offline_of.Goals as goal

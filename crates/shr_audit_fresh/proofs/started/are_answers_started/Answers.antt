@@ -1,3 +1,4 @@
+-- SPDX-License-Identifier: GPL-2.0-only
 use Rattle.shr_audit_fresh.proofs.Common.{ℕ, ◌≤◌, List, subst, arith, Decides, Answered, Cited, Report, of_answer, tree_cited, serial_of, IsEntryStarted}
 use Rattle.shr_audit_fresh.proofs.StartedLaws.{past_started}
 use Rattle.shr_audit_case.proofs.Upto.{upto_all, upto_fails, upto_more}

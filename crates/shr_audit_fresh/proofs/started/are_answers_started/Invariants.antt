@@ -1,3 +1,4 @@
+-- SPDX-License-Identifier: GPL-2.0-only
 use Rattle.shr_audit_fresh.proofs.Common.{ℕ, ◌<◌, Answered, of_answer, tree_cited, serial_of, IsEntryStarted}
 use Rattle.shr_audit_fresh.proofs.started.are_answers_started.Given as goal
 

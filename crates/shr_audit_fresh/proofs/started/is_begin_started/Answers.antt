@@ -1,3 +1,4 @@
+-- SPDX-License-Identifier: GPL-2.0-only
 use Rattle.shr_audit_fresh.proofs.Common.{List, subst, Decides, WalkRecord, EachItem, IsWalkStarted}
 use Rattle.shr_audit_fresh.proofs.StartedLaws.{answers_fail, started}
 use Rattle.shr_audit_fresh.proofs.started.is_begin_started.Goals as goal

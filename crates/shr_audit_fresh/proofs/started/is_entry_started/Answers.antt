@@ -1,3 +1,4 @@
+-- SPDX-License-Identifier: GPL-2.0-only
 use Rattle.shr_audit_fresh.proofs.Common.{ap, ◌∙◌, option_to_list, Cited, may_show}
 use Rattle.shr_audit_fresh.proofs.StartedLaws.{entry_none, entry_one}
 use Rattle.shr_audit_fresh.proofs.started.is_entry_started.Goals as goal

@@ -1,3 +1,4 @@
+-- SPDX-License-Identifier: GPL-2.0-only
 use Rattle.shr_audit_fresh.proofs.Common.{ℕ, List, refl, ap, subst, ◌∙◌, Decides, WalkRecord, walk_cited, IsEntryStarted}
 use Rattle.shr_audit_fresh.proofs.started.is_walk_started.Goals as goal
 

@@ -1,3 +1,4 @@
+-- SPDX-License-Identifier: GPL-2.0-only
 use Rattle.shr_audit_fresh.proofs.Common.{sym, ◌∙◌, Answered, tree_cited, serial_of}
 use Rattle.shr_audit_fresh.proofs.Answering.{of_answered, of_none}
 use Rattle.shr_audit_fresh.proofs.told.cited_by.Goals as goal

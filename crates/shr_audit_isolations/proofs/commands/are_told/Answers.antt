@@ -1,3 +1,4 @@
+-- SPDX-License-Identifier: GPL-2.0-only
 use Rattle.shr_audit_isolations.proofs.Common.{ℕ, WorkerPart, more_at, PartTellsIsolations}
 use Rattle.shr_audit_isolations.proofs.Commanded.{owns_here, stands_here, told_all, told_fails}
 use Rattle.shr_audit_isolations.proofs.commands.are_told.Goals as goal

@@ -1,3 +1,4 @@
+-- SPDX-License-Identifier: GPL-2.0-only
 use Rattle.shr_audit_isolations.proofs.Common.{◌≡◌, true, false, subst, arith, rules, nat_le, nat_tests, IsPartitionPoint-from_clause, get_or_from_slice_get, slice_get_within, Isolation}
 use Rattle.shr_audit_isolations.proofs.Commanded.{parted_up_to}
 use Rattle.shr_audit_isolations.proofs.commands.behind_of.Goals as goal

@@ -1,3 +1,4 @@
+-- SPDX-License-Identifier: GPL-2.0-only
 use Rattle.shr_audit_isolations.proofs.Commanded.{answered_none, answered_one}
 use Rattle.shr_audit_isolations.proofs.commands.is_answer_told.Goals as goal
 

@@ -1,3 +1,4 @@
+-- SPDX-License-Identifier: GPL-2.0-only
 use Rattle.shr_audit_isolations.proofs.Common.{ℕ, refl, Decides, Answered, more_at, TellsIsolations}
 use Rattle.shr_audit_isolations.proofs.Commanded.{answer_decided, part_fails, part_whole}
 use Rattle.shr_audit_isolations.proofs.commands.is_part_told.Goals as goal

@@ -1,3 +1,4 @@
+-- SPDX-License-Identifier: GPL-2.0-only
 use Rattle.shr_audit_isolations.proofs.Common.{◌≡◌, ◌<◌, ℕ, Some, slice_get, Answered, TellsIsolations}
 use Rattle.shr_audit_isolations.proofs.commands.is_part_told.Given as goal
 

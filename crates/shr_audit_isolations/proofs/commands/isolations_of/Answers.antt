@@ -1,3 +1,4 @@
+-- SPDX-License-Identifier: GPL-2.0-only
 use Rattle.shr_audit_isolations.proofs.Common.{arith, Isolation}
 use Rattle.shr_audit_passes.proofs.Ranged.{range_filter, none_filter}
 use Rattle.shr_audit_isolations.proofs.commands.isolations_of.Goals as goal

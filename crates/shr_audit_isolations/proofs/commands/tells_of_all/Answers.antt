@@ -1,3 +1,4 @@
+-- SPDX-License-Identifier: GPL-2.0-only
 use Rattle.std.proofs.Common.{arith}
 use Rattle.shr_audit_isolations.proofs.Commanded.{tells_one}
 use Rattle.shr_audit_isolations.proofs.commands.tells_of_all.Goals as goal

@@ -1,3 +1,4 @@
+-- SPDX-License-Identifier: GPL-2.0-only
 use Rattle.shr_audit_isolations.proofs.Common.{◌≡◌, map, take, begun, told_of}
 use Rattle.shr_audit_isolations.proofs.gathered.begin_row.Given as goal
 

@@ -1,3 +1,4 @@
+-- SPDX-License-Identifier: GPL-2.0-only
 use Rattle.shr_audit_isolations.proofs.Common.{take, IsGatheringBegun}
 use Rattle.shr_audit_isolations.proofs.gathered.begin_table.Given as goal
 

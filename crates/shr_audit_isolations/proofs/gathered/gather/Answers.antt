@@ -1,3 +1,4 @@
+-- SPDX-License-Identifier: GPL-2.0-only
 use Rattle.shr_audit_isolations.proofs.Common.{List, subst, WorkerPart, clash, IsGatheringBegun}
 use Rattle.shr_audit_isolations.proofs.Lists.{gathered_all, scans_decided}
 use Rattle.shr_audit_isolations.proofs.gathered.gather.Goals as goal

@@ -1,3 +1,4 @@
+-- SPDX-License-Identifier: GPL-2.0-only
 use Rattle.shr_audit_isolations.proofs.Common.{each_all, IsOfTold}
 use Rattle.shr_audit_isolations.proofs.Gathering.{entries_broken, entries_more, gains_more}
 use Rattle.shr_audit_isolations.proofs.gathered.gather_entries.Goals as goal

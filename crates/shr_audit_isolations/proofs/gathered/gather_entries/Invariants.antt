@@ -1,3 +1,4 @@
+-- SPDX-License-Identifier: GPL-2.0-only
 use Rattle.shr_audit_isolations.proofs.Common.{◌≡◌, ◌<◌, ℕ, Some, slice_get, take, Entry, GainsScans, IsOfTold, at_place}
 use Rattle.shr_audit_isolations.proofs.gathered.gather_entries.Given as goal
 

@@ -1,3 +1,4 @@
+-- SPDX-License-Identifier: GPL-2.0-only
 use Rattle.shr_audit_isolations.proofs.Lists.{first_gains, first_none, first_right}
 use Rattle.shr_audit_isolations.proofs.gathered.gather_first.Goals as goal
 

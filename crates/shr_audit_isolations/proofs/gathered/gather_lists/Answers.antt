@@ -1,3 +1,4 @@
+-- SPDX-License-Identifier: GPL-2.0-only
 use Rattle.shr_audit_isolations.proofs.Lists.{list_gains, lists_broken, lists_more}
 use Rattle.shr_audit_isolations.proofs.gathered.gather_lists.Goals as goal
 

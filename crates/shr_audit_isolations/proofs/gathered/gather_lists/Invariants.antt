@@ -1,3 +1,4 @@
+-- SPDX-License-Identifier: GPL-2.0-only
 use Rattle.shr_audit_isolations.proofs.Common.{◌<◌, ℕ, GainsScans, IsOfTheirs, journals_to}
 use Rattle.shr_audit_isolations.proofs.gathered.gather_lists.Given as goal
 

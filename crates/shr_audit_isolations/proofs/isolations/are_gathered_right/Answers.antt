@@ -1,3 +1,4 @@
+-- SPDX-License-Identifier: GPL-2.0-only
 use Rattle.shr_audit_isolations.proofs.Common.{Option, subst, Vec, Global, IsOfIsolation, EachEntry, Gathered, AreGathered, IfSome}
 use Rattle.shr_audit_isolations.proofs.Lists.{rows_decided}
 use Rattle.shr_audit_isolations.proofs.isolations.are_gathered_right.Goals as goal

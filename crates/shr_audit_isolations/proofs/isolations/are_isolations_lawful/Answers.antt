@@ -1,3 +1,4 @@
+-- SPDX-License-Identifier: GPL-2.0-only
 use Rattle.shr_audit_isolations.proofs.Lists.{lawful_decided}
 use Rattle.shr_audit_isolations.proofs.isolations.are_isolations_lawful.Goals as goal
 

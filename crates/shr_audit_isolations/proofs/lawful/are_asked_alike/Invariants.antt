@@ -1,3 +1,4 @@
+-- SPDX-License-Identifier: GPL-2.0-only
 use Rattle.shr_audit_isolations.proofs.Common.{◌≡◌, ◌<◌, ℕ, Some, slice_get, IsolationScan, IsAskedAlike}
 use Rattle.shr_audit_isolations.proofs.lawful.are_asked_alike.Given as goal
 

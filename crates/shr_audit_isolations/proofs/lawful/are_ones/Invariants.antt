@@ -1,3 +1,4 @@
+-- SPDX-License-Identifier: GPL-2.0-only
 use Rattle.shr_audit_isolations.proofs.Common.{◌≡◌, ◌<◌, ℕ, Some, slice_get, met_one, IsolationScan, met_by}
 use Rattle.shr_audit_isolations.proofs.lawful.are_ones.Given as goal
 

@@ -1,3 +1,4 @@
+-- SPDX-License-Identifier: GPL-2.0-only
 use Rattle.std.proofs.Common.{arith}
 use Rattle.shr_audit_isolations.proofs.Meeting.{so_many}
 use Rattle.shr_audit_isolations.proofs.lawful.are_so_many.Goals as goal

@@ -1,3 +1,4 @@
+-- SPDX-License-Identifier: GPL-2.0-only
 use Rattle.shr_audit_isolations.proofs.Common.{◌≡◌, ◌+◌, sum_by, take, isolation_freed}
 use Rattle.shr_audit_isolations.proofs.lawful.have_freed.Given as goal
 

@@ -1,3 +1,4 @@
+-- SPDX-License-Identifier: GPL-2.0-only
 use Rattle.shr_audit_isolations.proofs.Common.{IsLawfulIsolation, ◌≡◌, map, mets_of, EachItem, fails, seen_of, IsAskedAlike, IsBounded, met_by}
 use Rattle.shr_audit_isolations.proofs.Meeting.{all_tested, tested_lawful}
 use Rattle.shr_audit_isolations.proofs.lawful.is_lawful.Goals as goal

@@ -1,3 +1,4 @@
+-- SPDX-License-Identifier: GPL-2.0-only
 use Rattle.shr_audit_isolations.proofs.Common.{ℕ, List, length, refl, subst, Vec, Decides, Global, Script, EachItem, all_at, fails, more_at, Report, Gathered, told_of, AreRowsRight, IsToldRight, slice_get_read}
 use Rattle.shr_audit_isolations.proofs.right.are_rows_right.Goals as goal
 

@@ -1,3 +1,4 @@
+-- SPDX-License-Identifier: GPL-2.0-only
 use Rattle.shr_audit_isolations.proofs.Common.{◌≡◌, ◌<◌, ℕ, Some, slice_get, Vec, Global, EachItem, Gathered, told_of, IsToldRight}
 use Rattle.shr_audit_isolations.proofs.right.are_rows_right.Given as goal
 

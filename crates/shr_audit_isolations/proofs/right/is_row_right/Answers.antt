@@ -1,3 +1,4 @@
+-- SPDX-License-Identifier: GPL-2.0-only
 use Rattle.shr_audit_isolations.proofs.Common.{each_all, each_more, told_of, IsToldRight}
 use Rattle.shr_audit_isolations.proofs.right.is_row_right.Goals as goal
 

@@ -1,3 +1,4 @@
+-- SPDX-License-Identifier: GPL-2.0-only
 use Rattle.shr_audit_isolations.proofs.Common.{◌≡◌, ◌<◌, ℕ, Some, slice_get, Gathered, told_of, IsToldRight}
 use Rattle.shr_audit_isolations.proofs.right.is_row_right.Given as goal
 

@@ -1,3 +1,4 @@
+-- SPDX-License-Identifier: GPL-2.0-only
 use Rattle.std.proofs.Common.{◌-◌, arith}
 use Rattle.shr_audit_lists.proofs.BagLaw.{listed_within, totals_wrong, bag_law}
 use Rattle.shr_audit_lists.proofs.bag.is_bag_lawful.Goals as goal

@@ -1,3 +1,4 @@
+-- SPDX-License-Identifier: GPL-2.0-only
 use Rattle.std.proofs.Common.{◌-◌, arith, refl}
 use Rattle.shr_base.specs.declared.places.Serial.{Serial}
 use Rattle.shr_audit_lists.proofs.Distinct.{distinct_sorted, twice}

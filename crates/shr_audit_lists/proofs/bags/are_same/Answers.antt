@@ -1,3 +1,4 @@
+-- SPDX-License-Identifier: GPL-2.0-only
 use Rattle.shr_audit_lists.proofs.SerialsCommon.{◌≡◌, Bool, true, false, arith, Serial}
 use Rattle.shr_audit_lists.proofs.Sorting.{same_lists, keys_at}
 use Rattle.shr_audit_lists.proofs.bags.are_same.Goals as goal

@@ -1,3 +1,4 @@
+-- SPDX-License-Identifier: GPL-2.0-only
 use Rattle.shr_audit_lists.proofs.SerialsCommon.{◌≡◌, ◌<◌, ℕ, get_or, Serial}
 use Rattle.shr_audit_lists.proofs.bags.are_same.Given as goal
 

@@ -1,3 +1,4 @@
+-- SPDX-License-Identifier: GPL-2.0-only
 use Rattle.shr_audit_lists.proofs.SerialsCommon.{List, Bool, map, sym, ap, subst, ◌∙◌, Decides, Serial, AreDistinct, serial_key}
 use Rattle.shr_audit_lists.proofs.Sorting.{bag_decided, not_apart}
 use Rattle.shr_audit_lists.proofs.bags.is_bag_of.Goals as goal

@@ -1,3 +1,4 @@
+-- SPDX-License-Identifier: GPL-2.0-only
 use Rattle.shr_audit_lists.proofs.Common.{List, Bool, sym, subst, TreeEntry, AreBegun}
 use Rattle.shr_audit_lists.proofs.Beginning.{begun_of}
 use Rattle.shr_audit_lists.proofs.begun.are_closed_begun.Goals as goal

@@ -1,3 +1,4 @@
+-- SPDX-License-Identifier: GPL-2.0-only
 use Rattle.shr_audit_lists.proofs.Common.{◌≡◌, ◌<◌, ℕ, List, Some, slice_get, PlaceEnd, IsFirst, AreBegun, IsBegunIfClosed}
 use Rattle.shr_audit_lists.proofs.begun.are_lists_begun.Given as goal
 

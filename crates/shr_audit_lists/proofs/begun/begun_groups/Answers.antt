@@ -1,3 +1,4 @@
+-- SPDX-License-Identifier: GPL-2.0-only
 use Rattle.shr_audit_lists.proofs.Common.{ℕ, ◌+◌, ◌∙◌, List, [], ◌∷◌, Bool, length, length-append, ap, subst, Decides, HasBegunAbove}
 use Rattle.shr_audit_lists.proofs.Beginning.{begun_more}
 use Rattle.shr_audit_lists.proofs.begun.begun_groups.Goals as goal

@@ -1,3 +1,4 @@
+-- SPDX-License-Identifier: GPL-2.0-only
 use Rattle.shr_audit_lists.proofs.Common.{◌≡◌, length, AreBegun}
 use Rattle.shr_audit_lists.proofs.begun.begun_groups.Given as goal
 

@@ -1,3 +1,4 @@
+-- SPDX-License-Identifier: GPL-2.0-only
 use Rattle.shr_audit_lists.proofs.Common.{◌≡◌, ◌<◌, ℕ, Some, slice_get, Begin}
 use Rattle.shr_audit_lists.proofs.begun.is_begin.Given as goal
 

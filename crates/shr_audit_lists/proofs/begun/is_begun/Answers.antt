@@ -1,3 +1,4 @@
+-- SPDX-License-Identifier: GPL-2.0-only
 use Rattle.shr_audit_lists.proofs.Common.{◌≡◌, ℕ, ◌<◌, Bool, true, false, length, refl, sym, subst, arith, Contains, Decides, Begin, parent_of, HasBegunAbove, slice_index_or}
 use Rattle.shr_audit_lists.proofs.Beginning.{root_decided, own_begun, below_decided}
 use Rattle.shr_audit_lists.proofs.begun.is_begun.Goals as goal

@@ -1,3 +1,4 @@
+-- SPDX-License-Identifier: GPL-2.0-only
 use Rattle.shr_audit_lists.specs.Begun.{IsBegunIfClosed}
 use Rattle.shr_audit_lists.proofs.Journals.{asked_of_first}
 use Rattle.shr_audit_lists.proofs.begun.is_list_begun.Goals as goal

@@ -1,3 +1,4 @@
+-- SPDX-License-Identifier: GPL-2.0-only
 use Rattle.shr_audit_lists.proofs.Setting.{bits_of}
 use Rattle.shr_audit_lists.proofs.bits.are_bits_lawful.Goals as goal
 

@@ -1,3 +1,4 @@
+-- SPDX-License-Identifier: GPL-2.0-only
 use Rattle.shr_audit_lists.proofs.BitsCommon.{◌≡◌, ◌<◌, ℕ, Some, slice_get, PlaceEnd, IsSetIfLive}
 use Rattle.shr_audit_lists.proofs.bits.are_lists_set.Given as goal
 

@@ -1,3 +1,4 @@
+-- SPDX-License-Identifier: GPL-2.0-only
 use Rattle.shr_audit_lists.proofs.BitsCommon.{length, sym, ap, ◌∙◌, eqb-true, eq-eqb}
 use Rattle.shr_audit_lists.proofs.Setting.{nothing_left, not_live, live, clash}
 use Rattle.shr_audit_lists.proofs.bits.is_place_set.Goals as goal

@@ -1,3 +1,4 @@
+-- SPDX-License-Identifier: GPL-2.0-only
 use Rattle.std.proofs.Common.{arith}
 use Rattle.shr_audit_lists.proofs.Journals.{done_all}
 use Rattle.shr_audit_lists.proofs.done.are_done_closed.Goals as goal

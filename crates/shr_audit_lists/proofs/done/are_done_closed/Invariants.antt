@@ -1,3 +1,4 @@
+-- SPDX-License-Identifier: GPL-2.0-only
 use Rattle.shr_audit_lists.proofs.Common.{◌<◌, ℕ, Contains, Done, IsClosedAt}
 use Rattle.shr_audit_lists.proofs.done.are_done_closed.Given as goal
 

@@ -1,3 +1,4 @@
+-- SPDX-License-Identifier: GPL-2.0-only
 use Rattle.shr_audit_lists.proofs.Common.{◌≡◌, drop, is_closed}
 use Rattle.shr_audit_lists.proofs.done.is_closed.Given as goal
 

@@ -1,3 +1,4 @@
+-- SPDX-License-Identifier: GPL-2.0-only
 use Rattle.shr_audit_lists.proofs.Common.{◌<◌, ℕ, IsClosedAt}
 use Rattle.shr_audit_lists.proofs.done.is_closed_on_nodes.Given as goal
 

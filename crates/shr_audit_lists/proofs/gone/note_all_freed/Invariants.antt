@@ -1,3 +1,4 @@
+-- SPDX-License-Identifier: GPL-2.0-only
 use Rattle.shr_audit_lists.proofs.BagCommon.{◌≡◌, ◌++◌, take, flat_map, PlaceEnd, freed_at, serials_of, journals_of}
 use Rattle.shr_audit_lists.proofs.gone.note_all_freed.Given as goal
 

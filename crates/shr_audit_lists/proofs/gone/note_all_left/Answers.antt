@@ -1,3 +1,4 @@
+-- SPDX-License-Identifier: GPL-2.0-only
 use Rattle.shr_audit_lists.proofs.BagCommon.{◌≡◌, ◌++◌, List, ap, ◌∙◌, flat_map, PlaceEnd, Place, Serial, serials_of, items_of, journals_of, flat_all}
 use Rattle.shr_audit_lists.proofs.BagLaw.{by_places}
 use Rattle.shr_audit_lists.proofs.gone.note_all_left.Goals as goal

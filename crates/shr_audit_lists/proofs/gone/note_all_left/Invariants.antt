@@ -1,3 +1,4 @@
+-- SPDX-License-Identifier: GPL-2.0-only
 use Rattle.shr_audit_lists.proofs.BagCommon.{◌≡◌, ◌++◌, take, flat_map, PlaceEnd, serials_of, items_of, journals_of}
 use Rattle.shr_audit_lists.proofs.gone.note_all_left.Given as goal
 

@@ -1,3 +1,4 @@
+-- SPDX-License-Identifier: GPL-2.0-only
 use Rattle.shr_audit_lists.proofs.BagCommon.{◌++◌, List, map, ap, [], ◌∙◌, Serial, freed_serial}
 use Rattle.shr_audit_case.specs.declared.tags.FreedTag.{FreedTag}
 use Rattle.shr_audit_lists.proofs.BagLaw.{freed_serials}

@@ -1,3 +1,4 @@
+-- SPDX-License-Identifier: GPL-2.0-only
 use Rattle.shr_audit_lists.proofs.BagCommon.{◌≡◌, ◌++◌, map, take, left_serial}
 use Rattle.shr_audit_lists.proofs.gone.note_left.Given as goal
 

@@ -1,3 +1,4 @@
+-- SPDX-License-Identifier: GPL-2.0-only
 use Rattle.shr_audit_lists.proofs.BagCommon.{◌++◌, List, map, ap, ◌∙◌, Serial, left_serial}
 use Rattle.shr_audit_lists.proofs.BagLaw.{left_serials}
 use Rattle.shr_audit_lists.proofs.gone.note_left_at.Goals as goal

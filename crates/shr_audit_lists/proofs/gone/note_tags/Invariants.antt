@@ -1,3 +1,4 @@
+-- SPDX-License-Identifier: GPL-2.0-only
 use Rattle.shr_audit_lists.proofs.BagCommon.{◌≡◌, ◌++◌, map, take, freed_serial}
 use Rattle.shr_audit_lists.proofs.gone.note_tags.Given as goal
 

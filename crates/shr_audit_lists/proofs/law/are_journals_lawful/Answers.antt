@@ -1,3 +1,4 @@
+-- SPDX-License-Identifier: GPL-2.0-only
 use Rattle.shr_audit_lists.proofs.Common.{◌≡◌, ◌≤◌, ℕ, List, length, sym, ap, subst, ◌∙◌, arith, Place, IsPaired, IsTree, AreJournalsLawful, journals_of, parents_of, AreBegunIfClosed, AreItemsLeft, AreOutcomesSo, ArePlacesOnce, ArePlacesThere, IsPlaceStanding}
 use Rattle.shr_audit_lists.proofs.Whole.{refused, groups_there, law_of, stands_from}
 use Rattle.shr_audit_lists.proofs.law.are_journals_lawful.Goals as goal

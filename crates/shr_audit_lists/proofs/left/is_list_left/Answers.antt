@@ -1,3 +1,4 @@
+-- SPDX-License-Identifier: GPL-2.0-only
 use Rattle.shr_audit_lists.proofs.Whole.{left_here}
 use Rattle.shr_audit_lists.proofs.left.is_list_left.Goals as goal
 

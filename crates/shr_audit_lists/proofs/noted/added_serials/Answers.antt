@@ -1,3 +1,4 @@
+-- SPDX-License-Identifier: GPL-2.0-only
 use Rattle.shr_audit_lists.proofs.BagCommon.{◌≡◌, ◌++◌, [], List, ap, ◌∙◌, flat_map, PlaceEnd, Entry, Place, added_by_all, journals_of, flat_all}
 use Rattle.shr_audit_lists.proofs.BagLaw.{by_places}
 use Rattle.shr_audit_lists.proofs.noted.added_serials.Goals as goal

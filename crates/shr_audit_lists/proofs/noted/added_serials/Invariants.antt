@@ -1,3 +1,4 @@
+-- SPDX-License-Identifier: GPL-2.0-only
 use Rattle.shr_audit_lists.proofs.BagCommon.{◌≡◌, [], ◌++◌, take, flat_map, PlaceEnd, added_by_all, journals_of}
 use Rattle.shr_audit_lists.proofs.noted.added_serials.Given as goal
 

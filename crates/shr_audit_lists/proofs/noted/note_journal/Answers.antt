@@ -1,3 +1,4 @@
+-- SPDX-License-Identifier: GPL-2.0-only
 use Rattle.shr_audit_lists.proofs.BagCommon.{added_by, flat_all}
 use Rattle.shr_audit_lists.proofs.noted.note_journal.Goals as goal
 use Rattle.shr_model.proofs.Lists.{flat_more}

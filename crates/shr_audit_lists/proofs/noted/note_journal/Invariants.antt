@@ -1,3 +1,4 @@
+-- SPDX-License-Identifier: GPL-2.0-only
 use Rattle.shr_audit_lists.proofs.BagCommon.{◌≡◌, ◌++◌, take, flat_map, added_by}
 use Rattle.shr_audit_lists.proofs.noted.note_journal.Given as goal
 

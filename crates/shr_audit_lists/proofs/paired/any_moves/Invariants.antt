@@ -1,3 +1,4 @@
+-- SPDX-License-Identifier: GPL-2.0-only
 use Rattle.shr_audit_lists.proofs.Common.{◌≡◌, drop, list_any, moves}
 use Rattle.shr_audit_lists.proofs.paired.any_moves.Given as goal
 

@@ -1,3 +1,4 @@
+-- SPDX-License-Identifier: GPL-2.0-only
 use Rattle.shr_audit_lists.proofs.Common.{◌≡◌, ℕ, true, is_child, at_group, IsPairedAt, journals_of, below_more}
 use Rattle.shr_audit_lists.proofs.paired.are_children_paired.Goals as goal
 

@@ -1,3 +1,4 @@
+-- SPDX-License-Identifier: GPL-2.0-only
 use Rattle.shr_audit_lists.proofs.Pairing.{paired_of}
 use Rattle.shr_audit_lists.proofs.paired.are_journals_paired.Goals as goal
 

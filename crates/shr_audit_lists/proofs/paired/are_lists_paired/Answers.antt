@@ -1,3 +1,4 @@
+-- SPDX-License-Identifier: GPL-2.0-only
 use Rattle.shr_audit_lists.proofs.Common.{ℕ, arith, PlaceEnd, IsFirst, IsPairedAround}
 use Rattle.shr_audit_lists.proofs.Loops.{one_fails, one_more, all_so}
 use Rattle.shr_audit_lists.proofs.paired.are_lists_paired.Goals as goal

@@ -1,3 +1,4 @@
+-- SPDX-License-Identifier: GPL-2.0-only
 use Rattle.shr_audit_lists.specs.Paired.{IsPairedAround}
 use Rattle.shr_audit_lists.proofs.Journals.{asked_of_first, nothing_asked}
 use Rattle.shr_audit_lists.proofs.paired.is_list_paired.Goals as goal

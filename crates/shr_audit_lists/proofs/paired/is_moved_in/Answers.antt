@@ -1,3 +1,4 @@
+-- SPDX-License-Identifier: GPL-2.0-only
 use Rattle.shr_audit_lists.proofs.Pairing.{moved_decided}
 use Rattle.shr_audit_lists.proofs.paired.is_moved_in.Goals as goal
 

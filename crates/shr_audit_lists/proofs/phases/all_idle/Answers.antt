@@ -1,3 +1,4 @@
+-- SPDX-License-Identifier: GPL-2.0-only
 use Rattle.std.proofs.Common.{◌≡◌, ℕ, ◌+◌, List, [], ◌∷◌, length, length-append, get_or, sym, ap, subst, ◌∙◌, arith}
 use Rattle.shr_audit_lists.proofs.Phasing.{phases_none}
 use Rattle.shr_audit_lists.proofs.phases.all_idle.Goals as goal

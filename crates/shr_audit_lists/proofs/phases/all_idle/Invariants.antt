@@ -1,3 +1,4 @@
+-- SPDX-License-Identifier: GPL-2.0-only
 use Rattle.std.proofs.Common.{◌≡◌, ℕ, get_or, length}
 use Rattle.shr_audit_lists.proofs.phases.all_idle.Given as goal
 

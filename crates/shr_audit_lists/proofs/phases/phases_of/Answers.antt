@@ -1,3 +1,4 @@
+-- SPDX-License-Identifier: GPL-2.0-only
 use Rattle.shr_audit_lists.proofs.BitsCommon.{List, take, sym, subst, take_more, take_all, PoolEntry, ArePhases}
 use Rattle.shr_audit_lists.proofs.phases.phases_of.Goals as goal
 

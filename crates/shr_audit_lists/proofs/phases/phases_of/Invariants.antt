@@ -1,3 +1,4 @@
+-- SPDX-License-Identifier: GPL-2.0-only
 use Rattle.shr_audit_lists.proofs.BitsCommon.{take, ArePhases}
 use Rattle.shr_audit_lists.proofs.phases.phases_of.Given as goal
 

@@ -1,3 +1,4 @@
+-- SPDX-License-Identifier: GPL-2.0-only
 use Rattle.shr_audit_lists.proofs.Common.{ℕ, PlaceEnd, IsFirst}
 use Rattle.shr_audit_lists.proofs.Loops.{one_fails, all_so}
 use Rattle.shr_audit_lists.proofs.places.are_firsts.Goals as goal

@@ -1,3 +1,4 @@
+-- SPDX-License-Identifier: GPL-2.0-only
 use Rattle.shr_audit_lists.proofs.Common.{ℕ, arith, PlaceEnd, IsFirst, IsOutcomeSo}
 use Rattle.shr_audit_lists.proofs.Loops.{one_fails, one_more, all_so}
 use Rattle.shr_audit_lists.proofs.places.are_outcomes_printed.Goals as goal

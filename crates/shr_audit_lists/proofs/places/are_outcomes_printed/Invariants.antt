@@ -1,3 +1,4 @@
+-- SPDX-License-Identifier: GPL-2.0-only
 use Rattle.shr_audit_lists.proofs.Common.{◌≡◌, ◌<◌, ℕ, Some, slice_get, PlaceEnd, IsFirst, IsOutcomeSo}
 use Rattle.shr_audit_lists.proofs.places.are_outcomes_printed.Given as goal
 

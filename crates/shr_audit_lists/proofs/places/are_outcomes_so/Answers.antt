@@ -1,3 +1,4 @@
+-- SPDX-License-Identifier: GPL-2.0-only
 use Rattle.shr_audit_lists.proofs.Journals.{outcomes_of}
 use Rattle.shr_audit_lists.proofs.places.are_outcomes_so.Goals as goal
 

@@ -1,3 +1,4 @@
+-- SPDX-License-Identifier: GPL-2.0-only
 use Rattle.shr_audit_lists.proofs.Common.{List, subst, Decides, PlaceEnd, ArePrintedOnce}
 use Rattle.shr_audit_lists.proofs.Journals.{once_of}
 use Rattle.shr_audit_lists.proofs.places.are_places_once.Goals as goal

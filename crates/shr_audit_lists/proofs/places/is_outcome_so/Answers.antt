@@ -1,3 +1,4 @@
+-- SPDX-License-Identifier: GPL-2.0-only
 use Rattle.shr_audit_lists.specs.Fields.{IsOutcomeSo}
 use Rattle.shr_audit_lists.proofs.Journals.{asked_of_first, nothing_asked}
 use Rattle.shr_audit_lists.proofs.places.is_outcome_so.Goals as goal

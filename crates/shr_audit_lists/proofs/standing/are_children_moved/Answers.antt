@@ -1,3 +1,4 @@
+-- SPDX-License-Identifier: GPL-2.0-only
 use Rattle.std.proofs.Common.{arith}
 use Rattle.shr_audit_lists.proofs.Allowing.{children_all, child_left, one_child_more}
 use Rattle.shr_audit_lists.proofs.standing.are_children_moved.Goals as goal

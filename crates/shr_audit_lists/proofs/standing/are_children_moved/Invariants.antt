@@ -1,3 +1,4 @@
+-- SPDX-License-Identifier: GPL-2.0-only
 use Rattle.shr_audit_lists.proofs.Common.{◌<◌, ℕ, List, Entry, AreMovesTold, IsMovedChild}
 use Rattle.shr_audit_lists.proofs.standing.are_children_moved.Given as goal
 

@@ -1,3 +1,4 @@
+-- SPDX-License-Identifier: GPL-2.0-only
 use Rattle.shr_audit_lists.proofs.Allowing.{standing_of}
 use Rattle.shr_audit_lists.proofs.standing.are_entries_standing.Goals as goal
 

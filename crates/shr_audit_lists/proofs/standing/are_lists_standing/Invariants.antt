@@ -1,3 +1,4 @@
+-- SPDX-License-Identifier: GPL-2.0-only
 use Rattle.shr_audit_lists.proofs.Common.{◌≡◌, ◌<◌, ℕ, Some, slice_get, PlaceEnd, IsFirst, IsPlaceStanding}
 use Rattle.shr_audit_lists.proofs.standing.are_lists_standing.Given as goal
 

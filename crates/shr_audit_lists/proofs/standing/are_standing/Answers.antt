@@ -1,3 +1,4 @@
+-- SPDX-License-Identifier: GPL-2.0-only
 use Rattle.shr_audit_lists.proofs.Common.{◌∙◌, Bool, List, sym, subst, ap, length, take, Decides, MayStand, AreMovesTold}
 use Rattle.shr_audit_lists.proofs.Allowing.{stood_none, stood_more, stood_fails, stood_all}
 use Rattle.shr_audit_lists.proofs.standing.are_standing.Goals as goal

@@ -1,3 +1,4 @@
+-- SPDX-License-Identifier: GPL-2.0-only
 use Rattle.shr_audit_lists.proofs.Allowing.{IsStood}
 use Rattle.shr_audit_lists.proofs.standing.are_standing.Given as goal
 

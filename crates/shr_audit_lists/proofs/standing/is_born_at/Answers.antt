@@ -1,3 +1,4 @@
+-- SPDX-License-Identifier: GPL-2.0-only
 use Rattle.shr_audit_lists.proofs.Common.{arith, eqb-true, eq-eqb}
 use Rattle.shr_audit_lists.proofs.Allowing.{not_in_tree, climbed_more, born_fails, born_ends}
 use Rattle.shr_audit_lists.proofs.standing.is_born_at.Goals as goal

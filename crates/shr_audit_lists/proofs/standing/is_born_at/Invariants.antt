@@ -1,3 +1,4 @@
+-- SPDX-License-Identifier: GPL-2.0-only
 use Rattle.shr_audit_lists.proofs.Common.{◌<◌, List, length, Entry, AreMovesTold}
 use Rattle.shr_audit_lists.proofs.Allowing.{IsClimbed}
 use Rattle.shr_audit_lists.proofs.standing.is_born_at.Given as goal

@@ -1,3 +1,4 @@
+-- SPDX-License-Identifier: GPL-2.0-only
 use Rattle.std.proofs.Common.{arith}
 use Rattle.shr_audit_lists.proofs.Allowing.{child_free, child_told}
 use Rattle.shr_audit_lists.proofs.standing.is_moved_child.Goals as goal

@@ -1,3 +1,4 @@
+-- SPDX-License-Identifier: GPL-2.0-only
 use Rattle.std.proofs.Common.{arith}
 use Rattle.shr_audit_lists.proofs.Allowing.{none_stands, out_of_tree, place_stands}
 use Rattle.shr_audit_lists.proofs.standing.is_place_standing.Goals as goal

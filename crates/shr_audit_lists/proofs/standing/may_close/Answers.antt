@@ -1,3 +1,4 @@
+-- SPDX-License-Identifier: GPL-2.0-only
 use Rattle.shr_audit_lists.proofs.Allowing.{close_refused, close_told}
 use Rattle.shr_audit_lists.proofs.standing.may_close.Goals as goal
 

@@ -1,3 +1,4 @@
+-- SPDX-License-Identifier: GPL-2.0-only
 use Rattle.shr_audit_lists.proofs.Common.{sym, ◌∙◌, arith, child_takes}
 use Rattle.shr_audit_lists.proofs.Allowing.{move_refused, move_told}
 use Rattle.shr_audit_lists.proofs.standing.may_move_in.Goals as goal

@@ -1,3 +1,4 @@
+-- SPDX-License-Identifier: GPL-2.0-only
 use Rattle.shr_audit_lists.proofs.Allowing.{stands_closed, stand_told}
 use Rattle.shr_audit_lists.proofs.standing.may_stand.Goals as goal
 

@@ -1,3 +1,4 @@
+-- SPDX-License-Identifier: GPL-2.0-only
 use Rattle.std.proofs.Common.{◌+◌, ℕ, [], ◌∷◌, ◌∙◌, false, length, length-append, ap}
 use Rattle.shr_audit_lists.proofs.Allowing.{none_more}
 use Rattle.shr_audit_lists.proofs.standing.none_moved.Goals as goal

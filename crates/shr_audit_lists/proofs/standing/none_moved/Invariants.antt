@@ -1,3 +1,4 @@
+-- SPDX-License-Identifier: GPL-2.0-only
 use Rattle.shr_audit_lists.proofs.Common.{◌≡◌, [], length, AreMovesTold}
 use Rattle.shr_audit_lists.proofs.standing.none_moved.Given as goal
 

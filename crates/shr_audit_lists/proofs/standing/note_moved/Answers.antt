@@ -1,3 +1,4 @@
+-- SPDX-License-Identifier: GPL-2.0-only
 use Rattle.shr_audit_lists.proofs.Common.{◌≡◌, ◌<◌, ◌≤◌, length, Some, sym, ◌∙◌, arith, child_of}
 use Rattle.shr_audit_lists.proofs.Allowing.{moved_same, moved_set, moved_past}
 use Rattle.shr_audit_lists.proofs.standing.note_moved.Goals as goal

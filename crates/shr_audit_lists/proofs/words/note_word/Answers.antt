@@ -1,3 +1,4 @@
+-- SPDX-License-Identifier: GPL-2.0-only
 use Rattle.std.proofs.Common.{sym, ◌∙◌}
 use Rattle.shr_audit_lists.proofs.Wording.{words_kept, words_more}
 use Rattle.shr_audit_lists.proofs.words.note_word.Goals as goal

@@ -1,3 +1,4 @@
+-- SPDX-License-Identifier: GPL-2.0-only
 use Rattle.shr_audit_lists.proofs.BitsCommon.{List, take, sym, subst, take_more, take_all, MapEnd, AreWords}
 use Rattle.shr_audit_lists.proofs.words.words_of.Goals as goal
 

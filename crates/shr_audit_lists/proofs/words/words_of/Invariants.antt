@@ -1,3 +1,4 @@
+-- SPDX-License-Identifier: GPL-2.0-only
 use Rattle.shr_audit_lists.proofs.BitsCommon.{take, AreWords}
 use Rattle.shr_audit_lists.proofs.words.words_of.Given as goal
 

@@ -1,3 +1,4 @@
+-- SPDX-License-Identifier: GPL-2.0-only
 use Rattle.shr_base.specs.Walks.{Attempt}
 use Rattle.shr_audit_passes.proofs.Rising.{other_length, whole_prefix}
 use Rattle.shr_audit_passes.proofs.alone.are_all_tried.Goals as goal

@@ -1,3 +1,4 @@
+-- SPDX-License-Identifier: GPL-2.0-only
 use Rattle.shr_audit_passes.proofs.Common.{arith, nat_tests}
 use Rattle.shr_audit_passes.proofs.Tried.{before_tried}
 use Rattle.shr_audit_passes.proofs.alone.are_before_tried.Goals as goal

@@ -1,3 +1,4 @@
+-- SPDX-License-Identifier: GPL-2.0-only
 use Rattle.shr_audit_passes.proofs.Common.{◌≡◌, ◌<◌, ℕ, Some, slice_get, Attempt, IsPlaced}
 use Rattle.shr_audit_passes.proofs.alone.are_placed.Given as goal
 

@@ -1,3 +1,4 @@
+-- SPDX-License-Identifier: GPL-2.0-only
 use Rattle.shr_audit_passes.proofs.Common.{◌≡◌, ◌+◌, sum_by, take, attempt_freed}
 use Rattle.shr_audit_passes.proofs.alone.frees.Given as goal
 

@@ -1,3 +1,4 @@
+-- SPDX-License-Identifier: GPL-2.0-only
 use Rattle.shr_audit_passes.proofs.Common.{◌≡◌, List, ℕ, ap, subst, ◌∙◌, sum_by, Decides, Attempt, freed_told, attempt_freed}
 use Rattle.shr_audit_passes.proofs.Tried.{told_freed}
 use Rattle.shr_audit_passes.proofs.alone.is_freed_told.Goals as goal

@@ -1,3 +1,4 @@
+-- SPDX-License-Identifier: GPL-2.0-only
 use Rattle.shr_audit_passes.proofs.Common.{◌≡◌, ◌<◌, ℕ, Some, slice_get, Attempt, IsRoomAt}
 use Rattle.shr_audit_passes.proofs.alone.is_room_last.Given as goal
 

@@ -1,3 +1,4 @@
+-- SPDX-License-Identifier: GPL-2.0-only
 use Rattle.shr_audit_passes.proofs.Common.{ℕ, WorkerPart, more_at, IsPartTold}
 use Rattle.shr_audit_passes.proofs.Answered.{stands_here, told_all, told_fails}
 use Rattle.shr_audit_passes.proofs.commands.are_told.Goals as goal

@@ -1,3 +1,4 @@
+-- SPDX-License-Identifier: GPL-2.0-only
 use Rattle.shr_audit_passes.proofs.Common.{ℕ, sym, ap, Decides, Answered, more_at, IsAnswerTold, option_copied}
 use Rattle.shr_audit_passes.proofs.Answered.{answer_decided, part_fails, part_whole}
 use Rattle.shr_audit_passes.proofs.commands.is_part_told.Goals as goal

@@ -1,3 +1,4 @@
+-- SPDX-License-Identifier: GPL-2.0-only
 use Rattle.shr_audit_passes.proofs.Common.{◌≡◌, ◌<◌, ℕ, Some, slice_get, Answered, IsAnswerTold}
 use Rattle.shr_audit_passes.proofs.commands.is_part_told.Given as goal
 

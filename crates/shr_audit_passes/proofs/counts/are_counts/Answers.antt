@@ -1,3 +1,4 @@
+-- SPDX-License-Identifier: GPL-2.0-only
 use Rattle.shr_audit_passes.proofs.Counted.{counts_of_script}
 use Rattle.shr_audit_passes.proofs.counts.are_counts.Goals as goal
 

@@ -1,3 +1,4 @@
+-- SPDX-License-Identifier: GPL-2.0-only
 use Rattle.shr_audit_passes.proofs.Common.{List, subst, Decides, EachItem, Attempt, WalkRecord, IsKindAt}
 use Rattle.shr_audit_passes.proofs.kinds.are_kinds.Goals as goal
 

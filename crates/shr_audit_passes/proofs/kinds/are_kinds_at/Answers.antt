@@ -1,3 +1,4 @@
+-- SPDX-License-Identifier: GPL-2.0-only
 use Rattle.shr_audit_passes.specs.Kinds.{IsKindAt}
 use Rattle.shr_audit_passes.proofs.Common.{Attempt}
 use Rattle.shr_audit_passes.proofs.kinds.are_kinds_at.Goals as goal

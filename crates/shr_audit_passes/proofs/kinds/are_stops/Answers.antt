@@ -1,3 +1,4 @@
+-- SPDX-License-Identifier: GPL-2.0-only
 use Rattle.shr_audit_passes.specs.Kinds.{IsStopAt}
 use Rattle.shr_audit_passes.proofs.Common.{subst, Decides}
 use Rattle.shr_base.specs.Walks.{Attempt}

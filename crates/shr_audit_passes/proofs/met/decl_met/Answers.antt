@@ -1,3 +1,4 @@
+-- SPDX-License-Identifier: GPL-2.0-only
 use Rattle.shr_audit_passes.proofs.met.decl_met.Goals as goal
 
 pub returns : goal.returns

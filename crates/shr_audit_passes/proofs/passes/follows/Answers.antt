@@ -1,3 +1,4 @@
+-- SPDX-License-Identifier: GPL-2.0-only
 use Rattle.shr_audit_passes.proofs.Common.{◌*◌, ◌∙◌, ℕ, ap, subst, arith, nat_tests, next_of, MadeOf}
 use Rattle.shr_audit_passes.proofs.Arithmetic.{scanned_other, follows_if, product_is}
 use Rattle.shr_audit_passes.proofs.passes.follows.Goals as goal

@@ -1,3 +1,4 @@
+-- SPDX-License-Identifier: GPL-2.0-only
 use Rattle.std.proofs.Common.{arith}
 use Rattle.shr_audit_passes.proofs.Arithmetic.{halved_away}
 use Rattle.shr_audit_passes.proofs.passes.halved.Goals as goal

@@ -1,3 +1,4 @@
+-- SPDX-License-Identifier: GPL-2.0-only
 use Rattle.shr_audit_passes.proofs.Common.{◌≡◌, ◌-◌, ◌≤◌, length, arith, due, batch_of, total_of}
 use Rattle.shr_audit_passes.proofs.Scanned.{scans_freed, scans_differ}
 use Rattle.shr_audit_passes.proofs.scans.are_scans_of.Goals as goal

@@ -1,3 +1,4 @@
+-- SPDX-License-Identifier: GPL-2.0-only
 use Rattle.shr_audit_passes.proofs.Common.{◌≡◌, ◌+◌, sum_by, take, freed_of_scan}
 use Rattle.shr_audit_passes.proofs.scans.scans_free.Given as goal
 

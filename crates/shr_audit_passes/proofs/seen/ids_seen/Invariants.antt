@@ -1,3 +1,4 @@
+-- SPDX-License-Identifier: GPL-2.0-only
 use Rattle.shr_audit_passes.proofs.Common.{◌≡◌, flat_map, take, MapSeen, ids_in}
 use Rattle.shr_audit_passes.proofs.seen.ids_seen.Given as goal
 

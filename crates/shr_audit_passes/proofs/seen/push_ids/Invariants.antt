@@ -1,3 +1,4 @@
+-- SPDX-License-Identifier: GPL-2.0-only
 use Rattle.std.proofs.Common.{◌≡◌, ◌++◌}
 use Rattle.shr_audit_passes.specs.Seen.{ids_set_below}
 use Rattle.shr_audit_passes.proofs.seen.push_ids.Given as goal

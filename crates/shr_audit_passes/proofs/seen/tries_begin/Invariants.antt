@@ -1,3 +1,4 @@
+-- SPDX-License-Identifier: GPL-2.0-only
 use Rattle.shr_audit_passes.proofs.Common.{◌≡◌, map, take, Attempt}
 use Rattle.shr_audit_passes.proofs.seen.tries_begin.Given as goal
 

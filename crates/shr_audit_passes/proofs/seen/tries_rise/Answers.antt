@@ -1,3 +1,4 @@
+-- SPDX-License-Identifier: GPL-2.0-only
 use Rattle.shr_audit_passes.proofs.Common.{◌≡◌, ap, ◌∙◌, sym, get_or, arith, Attempt}
 use Rattle.shr_audit_passes.proofs.Rising.{too_many, not_rising, all_rising, one_more}
 use Rattle.shr_audit_passes.proofs.seen.tries_rise.Goals as goal

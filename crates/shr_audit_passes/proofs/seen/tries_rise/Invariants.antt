@@ -1,3 +1,4 @@
+-- SPDX-License-Identifier: GPL-2.0-only
 use Rattle.shr_audit_passes.proofs.Common.{◌≡◌, map, take, range_with_len, Attempt}
 use Rattle.shr_audit_passes.proofs.seen.tries_rise.Given as goal
 

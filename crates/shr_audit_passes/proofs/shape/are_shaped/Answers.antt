@@ -1,3 +1,4 @@
+-- SPDX-License-Identifier: GPL-2.0-only
 use Rattle.shr_audit_passes.proofs.Common.{Decides, each_more, each_all, IsShaped}
 use Rattle.shr_audit_passes.proofs.shape.are_shaped.Goals as goal
 

@@ -1,3 +1,4 @@
+-- SPDX-License-Identifier: GPL-2.0-only
 use Rattle.shr_audit_passes.proofs.Common.{Decides, EachItem, IsShaped}
 use Rattle.shr_audit_passes.proofs.Parts.{parts_all, parts_fail, parts_more}
 use Rattle.shr_audit_passes.proofs.shape.walks_are_shaped.Goals as goal

@@ -1,3 +1,4 @@
+-- SPDX-License-Identifier: GPL-2.0-only
 use Rattle.shr_audit_passes.proofs.Common.{◌≡◌, ◌<◌, ℕ, Some, slice_get, WorkerPart, EachItem, IsShaped}
 use Rattle.shr_audit_passes.proofs.shape.walks_are_shaped.Given as goal
 

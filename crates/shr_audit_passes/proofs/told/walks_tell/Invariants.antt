@@ -1,3 +1,4 @@
+-- SPDX-License-Identifier: GPL-2.0-only
 use Rattle.shr_audit_passes.proofs.Common.{◌≡◌, ◌+◌, sum_by, take, WalkRecord, freed_told}
 use Rattle.shr_audit_passes.proofs.told.walks_tell.Given as goal
 

@@ -1,3 +1,4 @@
+-- SPDX-License-Identifier: GPL-2.0-only
 use Rattle.shr_audit_pools.proofs.Moving.{words_decided}
 use Rattle.shr_audit_pools.proofs.deferred.are_words_right.Goals as goal
 

@@ -1,3 +1,4 @@
+-- SPDX-License-Identifier: GPL-2.0-only
 use Rattle.shr_audit_pools.proofs.Common.{sum_by, take, GainsAtEach, moved_at, pass_next, nr_of}
 use Rattle.shr_audit_pools.proofs.deferred.note_part.Given as goal
 

@@ -1,3 +1,4 @@
+-- SPDX-License-Identifier: GPL-2.0-only
 use Rattle.shr_audit_pools.proofs.Common.{sum_by, take, refl, gains_as, gains_more, moved_by_worker, pass_next, nr_of, sum_item}
 use Rattle.shr_audit_pools.proofs.Moving.{sum_all}
 use Rattle.shr_audit_pools.proofs.deferred.note_parts.Goals as goal

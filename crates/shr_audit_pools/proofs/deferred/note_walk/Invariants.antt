@@ -1,3 +1,4 @@
+-- SPDX-License-Identifier: GPL-2.0-only
 use Rattle.shr_audit_pools.proofs.Common.{GainsAtEach, pass_next, nr_of}
 use Rattle.shr_audit_pools.proofs.Moving.{tried_to}
 use Rattle.shr_audit_pools.proofs.deferred.note_walk.Given as goal

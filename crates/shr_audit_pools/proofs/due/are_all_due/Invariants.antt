@@ -1,3 +1,4 @@
+-- SPDX-License-Identifier: GPL-2.0-only
 use Rattle.shr_audit_pools.proofs.DueCommon.{◌≡◌, ◌<◌, ℕ, Some, slice_get, PlainWalk, IsDue}
 use Rattle.shr_audit_pools.proofs.due.are_all_due.Given as goal
 

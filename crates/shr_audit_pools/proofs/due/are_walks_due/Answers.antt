@@ -1,3 +1,4 @@
+-- SPDX-License-Identifier: GPL-2.0-only
 use Rattle.shr_audit_pools.proofs.DueCommon.{ℕ, WorkerPart, more_at, IsPartDue}
 use Rattle.shr_audit_pools.proofs.Dues.{due_all, due_fails, stands_here}
 use Rattle.shr_audit_pools.proofs.due.are_walks_due.Goals as goal

@@ -1,3 +1,4 @@
+-- SPDX-License-Identifier: GPL-2.0-only
 use Rattle.shr_audit_pools.proofs.DueCommon.{ℕ, List, true, false, subst, Decides, WorkerPart, PlainWalk, EachItem, more_at, IsDue}
 use Rattle.shr_audit_pools.proofs.DueLoops.{each_plain_of, item_fails, items_whole}
 use Rattle.shr_audit_pools.proofs.due.are_walks_of_commands.Goals as goal

@@ -1,3 +1,4 @@
+-- SPDX-License-Identifier: GPL-2.0-only
 use Rattle.shr_audit_pools.proofs.DueCommon.{◌≡◌, ◌<◌, ℕ, Some, slice_get, WorkerPart, EachItem, IsDue}
 use Rattle.shr_audit_pools.proofs.due.are_walks_of_commands.Given as goal
 

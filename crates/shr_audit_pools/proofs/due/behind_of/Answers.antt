@@ -1,3 +1,4 @@
+-- SPDX-License-Identifier: GPL-2.0-only
 use Rattle.shr_audit_pools.proofs.DueCommon.{◌≡◌, true, false, subst, arith, rules, nat_le, nat_tests, IsPartitionPoint-from_clause, get_or_from_slice_get, slice_get_within, PlainWalk}
 use Rattle.shr_audit_pools.proofs.Dues.{parted_up_to}
 use Rattle.shr_audit_pools.proofs.due.behind_of.Goals as goal

@@ -1,3 +1,4 @@
+-- SPDX-License-Identifier: GPL-2.0-only
 use Rattle.shr_audit_pools.proofs.Dues.{has_none, has_one}
 use Rattle.shr_audit_pools.proofs.due.has_due.Goals as goal
 

@@ -1,3 +1,4 @@
+-- SPDX-License-Identifier: GPL-2.0-only
 use Rattle.shr_audit_pools.proofs.DueCommon.{ℕ, refl, Decides, Answered, commands_of, more_at, HasDue, plain_walks_with}
 use Rattle.shr_audit_pools.proofs.Dues.{answer_due, part_fails, part_whole}
 use Rattle.shr_audit_pools.proofs.due.is_part_due.Goals as goal

@@ -1,3 +1,4 @@
+-- SPDX-License-Identifier: GPL-2.0-only
 use Rattle.shr_audit_pools.proofs.DueCommon.{◌≡◌, ◌<◌, ℕ, Some, slice_get, Answered, commands_of, HasDue, plain_walks_with}
 use Rattle.shr_audit_pools.proofs.due.is_part_due.Given as goal
 

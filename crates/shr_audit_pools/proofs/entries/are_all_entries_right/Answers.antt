@@ -1,3 +1,4 @@
+-- SPDX-License-Identifier: GPL-2.0-only
 use Rattle.shr_audit_pools.proofs.Common.{ℕ, true, false, UnitsEnd, more_at, AreEntriesRight, item_fails, items_whole}
 use Rattle.shr_audit_pools.proofs.Loops.{each_units_of}
 use Rattle.shr_audit_pools.proofs.entries.are_all_entries_right.Goals as goal

@@ -1,3 +1,4 @@
+-- SPDX-License-Identifier: GPL-2.0-only
 use Rattle.shr_audit_pools.proofs.Common.{◌≡◌, ◌<◌, ℕ, Some, slice_get, UnitsEnd, AreEntriesRight}
 use Rattle.shr_audit_pools.proofs.entries.are_all_entries_right.Given as goal
 

@@ -1,3 +1,4 @@
+-- SPDX-License-Identifier: GPL-2.0-only
 use Rattle.shr_audit_pools.proofs.Common.{units_place, IsEntryRight, items_whole, value_fails, at_copied}
 use Rattle.shr_audit_pools.proofs.entries.are_entries_right.Goals as goal
 

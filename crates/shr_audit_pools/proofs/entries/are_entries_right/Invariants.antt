@@ -1,3 +1,4 @@
+-- SPDX-License-Identifier: GPL-2.0-only
 use Rattle.shr_audit_pools.proofs.Common.{◌≡◌, ◌<◌, ℕ, Some, slice_get, PlainEntry, IsEntryRight, named_place}
 use Rattle.shr_audit_pools.proofs.entries.are_entries_right.Given as goal
 

@@ -1,3 +1,4 @@
+-- SPDX-License-Identifier: GPL-2.0-only
 use Rattle.shr_audit_formed.proofs.Eachs.{each_all, each_more}
 use Rattle.shr_laws.specs.Pools.{AreUnitsRight}
 use Rattle.shr_audit_pools.proofs.journals.are_all_right.Goals as goal

@@ -1,3 +1,4 @@
+-- SPDX-License-Identifier: GPL-2.0-only
 use Rattle.shr_audit_pools.proofs.Common.{◌≡◌, ◌<◌, ℕ, Some, slice_get, UnitsEnd, AreUnitsRight}
 use Rattle.shr_audit_pools.proofs.journals.are_all_right.Given as goal
 

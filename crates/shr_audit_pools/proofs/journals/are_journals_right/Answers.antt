@@ -1,3 +1,4 @@
+-- SPDX-License-Identifier: GPL-2.0-only
 use Rattle.shr_audit_pools.proofs.Journaled.{journals_decided, journals_wrong}
 use Rattle.shr_audit_pools.proofs.journals.are_journals_right.Goals as goal
 

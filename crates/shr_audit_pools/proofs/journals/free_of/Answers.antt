@@ -1,3 +1,4 @@
+-- SPDX-License-Identifier: GPL-2.0-only
 use Rattle.std.proofs.Common.{take}
 use Rattle.shr_audit_pools.proofs.Journaled.{free_more, journal_broken, journal_more}
 use Rattle.shr_audit_pools.proofs.journals.free_of.Goals as goal

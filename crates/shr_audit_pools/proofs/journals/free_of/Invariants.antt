@@ -1,3 +1,4 @@
+-- SPDX-License-Identifier: GPL-2.0-only
 use Rattle.shr_audit_pools.proofs.Common.{◌≡◌, ◌≤◌, take, IsPlainJournal, free_of}
 use Rattle.shr_audit_pools.proofs.journals.free_of.Given as goal
 

@@ -1,3 +1,4 @@
+-- SPDX-License-Identifier: GPL-2.0-only
 use Rattle.shr_audit_pools.proofs.Common.{◌≡◌, ◌<◌, ℕ, Some, slice_get, Reclaimed, IsReclaimAfter}
 use Rattle.shr_audit_pools.proofs.passes.are_alike.Given as goal
 

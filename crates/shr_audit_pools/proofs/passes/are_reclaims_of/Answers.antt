@@ -1,3 +1,4 @@
+-- SPDX-License-Identifier: GPL-2.0-only
 use Rattle.std.proofs.Common.{◌≡◌, length, arith}
 use Rattle.shr_audit_pools.proofs.Reclaimed.{reclaims_differ, reclaims_freed}
 use Rattle.shr_audit_pools.proofs.passes.are_reclaims_of.Goals as goal

@@ -1,3 +1,4 @@
+-- SPDX-License-Identifier: GPL-2.0-only
 use Rattle.shr_audit_pools.proofs.Common.{◌≡◌, ◌+◌, sum_by, take, reclaim_freed}
 use Rattle.shr_audit_pools.proofs.passes.have_freed.Given as goal
 

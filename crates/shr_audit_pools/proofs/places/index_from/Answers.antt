@@ -1,3 +1,4 @@
+-- SPDX-License-Identifier: GPL-2.0-only
 use Rattle.shr_audit_pools.proofs.Common.{◌≡◌, true, false, subst, arith, rules, nat_lt, nat_tests, IsPartitionPoint-from_clause, get_or_from_slice_get, slice_get_within, UnitsEnd, units_key}
 use Rattle.shr_audit_pools.proofs.Shelved.{parted}
 use Rattle.shr_audit_pools.proofs.places.index_from.Goals as goal

@@ -1,3 +1,4 @@
+-- SPDX-License-Identifier: GPL-2.0-only
 use Rattle.shr_audit_pools.proofs.Common.{ap, sym, ◌∙◌, arith, get_or_from_slice_get, slice_get_within, units_key}
 use Rattle.shr_audit_pools.proofs.Shelved.{index_none, index_some}
 use Rattle.shr_audit_pools.proofs.places.index_of.Goals as goal

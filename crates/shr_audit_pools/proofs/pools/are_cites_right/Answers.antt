@@ -1,3 +1,4 @@
+-- SPDX-License-Identifier: GPL-2.0-only
 use Rattle.shr_audit_pools.proofs.Lawed.{cites_decided}
 use Rattle.shr_audit_pools.proofs.pools.are_cites_right.Goals as goal
 

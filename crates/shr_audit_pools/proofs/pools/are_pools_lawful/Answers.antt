@@ -1,3 +1,4 @@
+-- SPDX-License-Identifier: GPL-2.0-only
 use Rattle.shr_audit_pools.proofs.Lawed.{journals_fail, kept_from, pools_decided}
 use Rattle.shr_audit_pools.proofs.pools.are_pools_lawful.Goals as goal
 

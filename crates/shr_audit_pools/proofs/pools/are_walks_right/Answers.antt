@@ -1,3 +1,4 @@
+-- SPDX-License-Identifier: GPL-2.0-only
 use Rattle.std.proofs.Common.{arith}
 use Rattle.shr_audit_pools.proofs.Lawed.{few_tries, versed_fails, walks_decided}
 use Rattle.shr_audit_pools.proofs.pools.are_walks_right.Goals as goal

@@ -1,3 +1,4 @@
+-- SPDX-License-Identifier: GPL-2.0-only
 use Rattle.shr_audit_pools.proofs.Common.{ℕ, true, false, WorkerPart, more_at, IsPoolReply, IsPartRight, item_fails, items_whole}
 use Rattle.shr_audit_case.proofs.Eachs.{each_answer_of}
 use Rattle.shr_audit_pools.proofs.replies.are_replies_right.Goals as goal

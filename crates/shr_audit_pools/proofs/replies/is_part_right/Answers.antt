@@ -1,3 +1,4 @@
+-- SPDX-License-Identifier: GPL-2.0-only
 use Rattle.shr_audit_pools.proofs.Common.{ℕ, Answered, commands_of, more_at, HasRight, item_fails, items_whole}
 use Rattle.shr_audit_pools.proofs.Loops.{right_here}
 use Rattle.shr_audit_pools.proofs.replies.is_part_right.Goals as goal

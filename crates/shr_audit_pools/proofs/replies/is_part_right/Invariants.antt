@@ -1,3 +1,4 @@
+-- SPDX-License-Identifier: GPL-2.0-only
 use Rattle.shr_audit_pools.proofs.Common.{◌≡◌, ◌<◌, ℕ, Some, slice_get, Answered, commands_of, HasRight}
 use Rattle.shr_audit_pools.proofs.replies.is_part_right.Given as goal
 

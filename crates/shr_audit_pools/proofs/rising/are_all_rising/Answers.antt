@@ -1,3 +1,4 @@
+-- SPDX-License-Identifier: GPL-2.0-only
 use Rattle.shr_audit_pools.proofs.Common.{ℕ, List, subst, WorkerPart, more_at, Decides, Answered, AreCitesRising, item_fails, items_whole}
 use Rattle.shr_audit_pools.proofs.rising.are_all_rising.Goals as goal
 

@@ -1,3 +1,4 @@
+-- SPDX-License-Identifier: GPL-2.0-only
 use Rattle.shr_audit_pools.proofs.Common.{◌≡◌, ◌<◌, ℕ, Some, slice_get, WorkerPart, AreCitesRising}
 use Rattle.shr_audit_pools.proofs.rising.are_all_rising.Given as goal
 

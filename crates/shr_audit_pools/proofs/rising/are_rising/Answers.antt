@@ -1,3 +1,4 @@
+-- SPDX-License-Identifier: GPL-2.0-only
 use Rattle.shr_audit_pools.proofs.Common.{length, refl, arith, slice_get_read, all_at, more_at, IsAbove, item_fails}
 use Rattle.shr_audit_pools.proofs.Risen.{above_decided, blank_lows, lows_more}
 use Rattle.shr_audit_pools.proofs.rising.are_rising.Goals as goal

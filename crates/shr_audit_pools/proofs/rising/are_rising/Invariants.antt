@@ -1,3 +1,4 @@
+-- SPDX-License-Identifier: GPL-2.0-only
 use Rattle.shr_audit_pools.proofs.Common.{◌≡◌, ◌<◌, ℕ, Some, slice_get, Answered, AreLows, IsAbove}
 use Rattle.shr_audit_pools.proofs.rising.are_rising.Given as goal
 

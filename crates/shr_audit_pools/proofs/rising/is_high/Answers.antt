@@ -1,3 +1,4 @@
+-- SPDX-License-Identifier: GPL-2.0-only
 use Rattle.shr_audit_pools.proofs.Common.{arith, nat_tests}
 use Rattle.shr_audit_pools.proofs.Risen.{high_some}
 use Rattle.shr_audit_pools.proofs.rising.is_high.Goals as goal

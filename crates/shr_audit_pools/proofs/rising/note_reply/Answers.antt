@@ -1,3 +1,4 @@
+-- SPDX-License-Identifier: GPL-2.0-only
 use Rattle.std.proofs.Common.{refl, ◌+◌}
 use Rattle.shr_audit_pools.proofs.Risen.{noted_some}
 use Rattle.shr_audit_pools.proofs.rising.note_reply.Goals as goal

@@ -1,3 +1,4 @@
+-- SPDX-License-Identifier: GPL-2.0-only
 use Rattle.shr_audit_pools.proofs.Stocked.{reclaims_more, reclaims_whole}
 use Rattle.shr_audit_pools.proofs.stock.all_reclaims.Goals as goal
 

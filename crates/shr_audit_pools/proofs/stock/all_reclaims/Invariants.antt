@@ -1,3 +1,4 @@
+-- SPDX-License-Identifier: GPL-2.0-only
 use Rattle.shr_audit_pools.proofs.Common.{◌≡◌, take, all_reclaims}
 use Rattle.shr_audit_pools.proofs.stock.all_reclaims.Given as goal
 

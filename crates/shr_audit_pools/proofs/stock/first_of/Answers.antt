@@ -1,3 +1,4 @@
+-- SPDX-License-Identifier: GPL-2.0-only
 use Rattle.shr_audit_pools.proofs.Common.{◌≡◌, true, false, subst, arith, rules, nat_lt, nat_tests, IsPartitionPoint-from_clause, get_or_from_slice_get, slice_get_within, Reclaimed}
 use Rattle.shr_audit_pools.proofs.Stocked.{parted_below}
 use Rattle.shr_audit_pools.proofs.stock.first_of.Goals as goal

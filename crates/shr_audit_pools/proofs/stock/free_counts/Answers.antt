@@ -1,3 +1,4 @@
+-- SPDX-License-Identifier: GPL-2.0-only
 use Rattle.std.proofs.Common.{take}
 use Rattle.shr_audit_pools.proofs.Journaled.{journal_broken, free_more}
 use Rattle.shr_audit_pools.proofs.Stocked.{count_more, counts_more}

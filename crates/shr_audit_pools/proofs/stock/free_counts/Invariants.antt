@@ -1,3 +1,4 @@
+-- SPDX-License-Identifier: GPL-2.0-only
 use Rattle.shr_audit_pools.proofs.Common.{◌≡◌, ◌+◌, ◌≤◌, ℕ, get_or, length, take, free_of}
 use Rattle.shr_audit_pools.proofs.stock.free_counts.Given as goal
 

@@ -1,3 +1,4 @@
+-- SPDX-License-Identifier: GPL-2.0-only
 use Rattle.shr_audit_pools.proofs.Common.{units_journal, named_place}
 use Rattle.shr_audit_pools.proofs.Stocked.{stock_at}
 use Rattle.shr_audit_pools.proofs.stock.reclaims_at.Goals as goal

@@ -1,3 +1,4 @@
+-- SPDX-License-Identifier: GPL-2.0-only
 use Rattle.shr_audit_pools.proofs.Common.{rules, Reclaimed, IsNonDecreasingBy-from_sort_by_key, answers_always}
 use Rattle.shr_audit_pools.proofs.Stocked.{reclaims_sorted}
 use Rattle.shr_audit_pools.proofs.stock.reclaims_of.Goals as goal

@@ -1,3 +1,4 @@
+-- SPDX-License-Identifier: GPL-2.0-only
 use Rattle.shr_audit_pools.proofs.Stocked.{stocks_more}
 use Rattle.shr_audit_pools.proofs.stock.stocks_of.Goals as goal
 

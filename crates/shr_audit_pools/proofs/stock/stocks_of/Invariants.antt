@@ -1,3 +1,4 @@
+-- SPDX-License-Identifier: GPL-2.0-only
 use Rattle.shr_audit_pools.proofs.Common.{take, AreStocksOf}
 use Rattle.shr_audit_pools.proofs.stock.stocks_of.Given as goal
 

@@ -1,3 +1,4 @@
+-- SPDX-License-Identifier: GPL-2.0-only
 use Rattle.shr_audit_pools.proofs.Common.{arith, Reclaimed}
 use Rattle.shr_audit_passes.proofs.Ranged.{range_filter, none_filter}
 use Rattle.shr_audit_pools.proofs.stock.with_key.Goals as goal

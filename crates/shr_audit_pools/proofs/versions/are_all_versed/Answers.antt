@@ -1,3 +1,4 @@
+-- SPDX-License-Identifier: GPL-2.0-only
 use Rattle.shr_audit_pools.proofs.Common.{ℕ, WorkerPart, more_at, IsPartVersed, item_fails, items_whole, here_at, parts_of}
 use Rattle.shr_audit_pools.proofs.Dues.{stands_here}
 use Rattle.shr_audit_pools.proofs.versions.are_all_versed.Goals as goal

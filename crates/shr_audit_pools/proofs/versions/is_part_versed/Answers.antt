@@ -1,3 +1,4 @@
+-- SPDX-License-Identifier: GPL-2.0-only
 use Rattle.shr_audit_pools.proofs.Common.{ℕ, length, refl, take, arith, slice_get_read, PlainWalk, more_at, IsVersed, here_at}
 use Rattle.shr_audit_pools.proofs.Versed.{later_command, part_fails, part_whole, versed_decided, versed_next, versed_none, versed_replied}
 use Rattle.shr_audit_pools.proofs.versions.is_part_versed.Goals as goal

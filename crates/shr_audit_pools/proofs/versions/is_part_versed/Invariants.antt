@@ -1,3 +1,4 @@
+-- SPDX-License-Identifier: GPL-2.0-only
 use Rattle.shr_audit_pools.proofs.Common.{◌≡◌, ◌<◌, ◌≤◌, ℕ, Some, slice_get, take, PlainWalk, AreLowsOf, IsVersed}
 use Rattle.shr_audit_pools.proofs.versions.is_part_versed.Given as goal
 

@@ -1,3 +1,4 @@
+-- SPDX-License-Identifier: GPL-2.0-only
 use Rattle.shr_audit_pools.proofs.Common.{◌≡◌, ◌<◌, ℕ, Some, slice_get, PlainTry, IsTryHigh}
 use Rattle.shr_audit_pools.proofs.versions.is_walk_high.Given as goal
 

@@ -1,3 +1,4 @@
+-- SPDX-License-Identifier: GPL-2.0-only
 use Rattle.shr_audit_pools.proofs.Common.{◌<◌, length, arith, slice_get-get_or}
 use Rattle.shr_audit_pools.proofs.Risen.{replies_more}
 use Rattle.shr_audit_pools.proofs.Versed.{replies_all}

@@ -1,3 +1,4 @@
+-- SPDX-License-Identifier: GPL-2.0-only
 use Rattle.shr_audit_pools.specs.Lows.{NotesReplies}
 use Rattle.shr_audit_pools.proofs.versions.note_replies.Given as goal
 

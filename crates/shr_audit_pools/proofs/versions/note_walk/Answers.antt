@@ -1,3 +1,4 @@
+-- SPDX-License-Identifier: GPL-2.0-only
 use Rattle.shr_audit_pools.proofs.Versed.{tries_all, tries_step}
 use Rattle.shr_audit_pools.proofs.versions.note_walk.Goals as goal
 

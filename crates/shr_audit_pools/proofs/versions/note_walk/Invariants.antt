@@ -1,3 +1,4 @@
+-- SPDX-License-Identifier: GPL-2.0-only
 use Rattle.shr_audit_pools.specs.Lows.{NotesTries}
 use Rattle.shr_audit_pools.proofs.versions.note_walk.Given as goal
 

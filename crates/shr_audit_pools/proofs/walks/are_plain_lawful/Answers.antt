@@ -1,3 +1,4 @@
+-- SPDX-License-Identifier: GPL-2.0-only
 use Rattle.shr_audit_pools.proofs.Common.{all_at, more_at, IsPlainLawful}
 use Rattle.shr_audit_pools.proofs.walks.are_plain_lawful.Goals as goal
 

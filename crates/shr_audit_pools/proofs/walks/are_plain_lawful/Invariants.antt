@@ -1,3 +1,4 @@
+-- SPDX-License-Identifier: GPL-2.0-only
 use Rattle.shr_audit_pools.proofs.Common.{◌≡◌, ◌<◌, ℕ, Some, slice_get, PlainWalk, IsPlainLawful}
 use Rattle.shr_audit_pools.proofs.walks.are_plain_lawful.Given as goal
 

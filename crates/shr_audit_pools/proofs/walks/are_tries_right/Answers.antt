@@ -1,3 +1,4 @@
+-- SPDX-License-Identifier: GPL-2.0-only
 use Rattle.shr_audit_pools.specs.Passes.{IsTryRight}
 use Rattle.shr_audit_pools.proofs.Tried.{tries_whole, try_step}
 use Rattle.shr_audit_pools.proofs.walks.are_tries_right.Goals as goal

@@ -1,3 +1,4 @@
+-- SPDX-License-Identifier: GPL-2.0-only
 use Rattle.shr_audit_pools.proofs.Common.{◌≡◌, ◌<◌, ℕ, Some, slice_get, PoolDecl, PlainTry, pool_place, IsTryRight}
 use Rattle.shr_audit_pools.proofs.walks.are_tries_right.Given as goal
 

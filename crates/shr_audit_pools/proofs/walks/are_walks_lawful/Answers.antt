@@ -1,3 +1,4 @@
+-- SPDX-License-Identifier: GPL-2.0-only
 use Rattle.shr_audit_pools.proofs.Common.{◌≡◌, ℕ, List, Some, slice_get, true, false, subst, Decides, WorkerPart, PlainWalk, more_at, IsPlainLawful, item_fails, items_whole, each_plain_of}
 use Rattle.shr_audit_pools.proofs.walks.are_walks_lawful.Goals as goal
 

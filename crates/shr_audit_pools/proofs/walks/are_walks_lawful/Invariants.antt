@@ -1,3 +1,4 @@
+-- SPDX-License-Identifier: GPL-2.0-only
 use Rattle.shr_audit_pools.proofs.Common.{◌≡◌, ◌<◌, ℕ, Some, slice_get, WorkerPart, PlainWalk, IsPlainLawful}
 use Rattle.shr_audit_pools.proofs.walks.are_walks_lawful.Given as goal
 

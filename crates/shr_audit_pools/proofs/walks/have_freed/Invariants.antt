@@ -1,3 +1,4 @@
+-- SPDX-License-Identifier: GPL-2.0-only
 use Rattle.shr_audit_pools.proofs.Common.{◌≡◌, ◌+◌, sum_by, take, freed_in_try}
 use Rattle.shr_audit_pools.proofs.walks.have_freed.Given as goal
 

@@ -1,3 +1,4 @@
+-- SPDX-License-Identifier: GPL-2.0-only
 use Rattle.shr_audit_pools.proofs.Common.{ℕ, length, subst, HasTries}
 use Rattle.shr_audit_pools.proofs.Tried.{freed_decided, plain_decided, plain_fails}
 use Rattle.shr_audit_pools.proofs.walks.is_plain_lawful.Goals as goal

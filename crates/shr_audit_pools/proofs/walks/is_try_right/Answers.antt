@@ -1,3 +1,4 @@
+-- SPDX-License-Identifier: GPL-2.0-only
 use Rattle.shr_audit_pools.specs.Places.{named_place}
 use Rattle.shr_audit_pools.proofs.Tried.{try_decided}
 use Rattle.shr_audit_pools.proofs.walks.is_try_right.Goals as goal

@@ -1,3 +1,4 @@
+-- SPDX-License-Identifier: GPL-2.0-only
 use Rattle.shr_audit_reasons.proofs.Common.{◌≡◌, ℕ, List, Some, slice_get, subst, Decides, WorkerPart, each_walk_of, EachItem, EachAttempt, IsAttemptCaused, decides_iff, EachWalk, IsWornRightly}
 use Rattle.shr_audit_reasons.proofs.Wearing.{caused_rightly, rightly_caused}
 use Rattle.shr_audit_reasons.proofs.attempts.are_attempts_caused.Goals as goal

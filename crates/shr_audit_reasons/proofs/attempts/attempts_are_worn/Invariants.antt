@@ -1,3 +1,4 @@
+-- SPDX-License-Identifier: GPL-2.0-only
 use Rattle.shr_audit_reasons.proofs.Common.{◌≡◌, ◌<◌, ℕ, Some, slice_get, IsAttemptCaused}
 use Rattle.shr_base.specs.Walks.{Attempt}
 use Rattle.shr_audit_reasons.proofs.attempts.attempts_are_worn.Given as goal

@@ -1,3 +1,4 @@
+-- SPDX-License-Identifier: GPL-2.0-only
 use Rattle.shr_audit_reasons.proofs.Common.{ℕ, List, subst, sym, WorkerPart, Script, WalkRecord, EachItem, all_at, more_at, Report, EachAttempt, IsAttemptCaused}
 use Rattle.shr_audit_reasons.proofs.attempts.parts_are_worn.Goals as goal
 

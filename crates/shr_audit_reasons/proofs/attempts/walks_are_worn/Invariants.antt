@@ -1,3 +1,4 @@
+-- SPDX-License-Identifier: GPL-2.0-only
 use Rattle.shr_audit_reasons.proofs.Common.{◌≡◌, ◌<◌, ℕ, Some, slice_get, WalkRecord, EachAttempt, IsAttemptCaused}
 use Rattle.shr_audit_reasons.proofs.attempts.walks_are_worn.Given as goal
 

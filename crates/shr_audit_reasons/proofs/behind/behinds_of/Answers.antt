@@ -1,3 +1,4 @@
+-- SPDX-License-Identifier: GPL-2.0-only
 use Rattle.std.proofs.Common.{refl}
 use Rattle.shr_audit_reasons.proofs.Behinds.{none_behind, none_yet}
 use Rattle.shr_audit_reasons.proofs.behind.behinds_of.Goals as goal

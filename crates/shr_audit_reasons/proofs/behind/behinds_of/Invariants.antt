@@ -1,3 +1,4 @@
+-- SPDX-License-Identifier: GPL-2.0-only
 use Rattle.shr_audit_reasons.specs.Behind.{AreBehind, HasBehinds}
 use Rattle.shr_audit_reasons.proofs.behind.behinds_of.Given as goal
 

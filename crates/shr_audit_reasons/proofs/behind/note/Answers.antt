@@ -1,3 +1,4 @@
+-- SPDX-License-Identifier: GPL-2.0-only
 use Rattle.shr_audit_reasons.proofs.Common.{◌≡◌, ◌<◌, ◌∷◌, [], ◌++◌, ℕ, ap, get_or, length, sym, subst, ◌∙◌, Registered, id_of}
 use Rattle.shr_audit_reasons.proofs.Behinds.{any_default, behinds_next}
 use Rattle.shr_audit_reasons.proofs.behind.note.Goals as goal

@@ -1,3 +1,4 @@
+-- SPDX-License-Identifier: GPL-2.0-only
 use Rattle.shr_audit_reasons.proofs.Phases.{next_one}
 use Rattle.shr_audit_reasons.proofs.cites.first_of.Goals as goal
 

@@ -1,3 +1,4 @@
+-- SPDX-License-Identifier: GPL-2.0-only
 use Rattle.std.proofs.Common.{◌∙◌, sym}
 use Rattle.shr_audit_reasons.proofs.Phases.{next_found, next_more, next_past}
 use Rattle.shr_audit_reasons.proofs.cites.next_of.Goals as goal

@@ -1,3 +1,4 @@
+-- SPDX-License-Identifier: GPL-2.0-only
 use Rattle.shr_audit_reasons.proofs.Common.{ℕ, ◌<◌, ◌≤◌, IsEntryOfId}
 use Rattle.shr_audit_reasons.proofs.cites.next_of.Given as goal
 

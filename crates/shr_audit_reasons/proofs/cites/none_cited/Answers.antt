@@ -1,3 +1,4 @@
+-- SPDX-License-Identifier: GPL-2.0-only
 use Rattle.shr_audit_reasons.proofs.Common.{◌≡◌, ◌+◌, ◌∷◌, [], ℕ, List, ap, arith, length, length-append, subst, sym, ◌∙◌, Cited, Never, cited_in}
 use Rattle.shr_audit_reasons.proofs.Noting.{never_none, never_push}
 use Rattle.shr_audit_reasons.proofs.cites.none_cited.Goals as goal

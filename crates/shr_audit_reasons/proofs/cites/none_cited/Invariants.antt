@@ -1,3 +1,4 @@
+-- SPDX-License-Identifier: GPL-2.0-only
 use Rattle.shr_audit_reasons.proofs.Common.{◌≡◌, ℕ, length, Never, cited_in}
 use Rattle.shr_audit_reasons.proofs.cites.none_cited.Given as goal
 

@@ -1,3 +1,4 @@
+-- SPDX-License-Identifier: GPL-2.0-only
 use Rattle.shr_audit_reasons.proofs.Common.{◌≡◌, ℕ, List, Option, Some, subst, sym, ◌↔◌, command_at, serial_of, Cited, CitesNow, NotesAnswer}
 use Rattle.shr_base.specs.declared.scripts.Command.{Command}
 use Rattle.shr_audit_reasons.proofs.Noting.{none_noted, told_noted}

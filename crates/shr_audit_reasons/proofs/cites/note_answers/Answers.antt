@@ -1,3 +1,4 @@
+-- SPDX-License-Identifier: GPL-2.0-only
 use Rattle.shr_audit_reasons.proofs.Common.{ℕ, ◌≤◌, subst, ◌∙◌, AreCited}
 use Rattle.shr_audit_reasons.proofs.Noting.{first_worker, last_worker}
 use Rattle.shr_audit_reasons.proofs.cites.note_answers.Goals as goal

@@ -1,3 +1,4 @@
+-- SPDX-License-Identifier: GPL-2.0-only
 use Rattle.shr_audit_reasons.proofs.Common.{◌≡◌, length, AreCitedBefore}
 use Rattle.shr_audit_reasons.proofs.cites.note_answers.Given as goal
 

@@ -1,3 +1,4 @@
+-- SPDX-License-Identifier: GPL-2.0-only
 use Rattle.std.proofs.Common.{ℕ, ◌≤◌, refl, subst, ◌∙◌}
 use Rattle.shr_audit_reasons.proofs.Noting.{next_worker}
 use Rattle.shr_audit_reasons.proofs.cites.note_worker.Goals as goal

@@ -1,3 +1,4 @@
+-- SPDX-License-Identifier: GPL-2.0-only
 use Rattle.shr_audit_reasons.proofs.cites.told.Goals as goal
 
 pub returns-in-Done : goal.returns-in-Done

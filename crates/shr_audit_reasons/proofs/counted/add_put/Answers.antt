@@ -1,3 +1,4 @@
+-- SPDX-License-Identifier: GPL-2.0-only
 use Rattle.shr_audit_reasons.proofs.SpentCommon.{◌≡◌, ◌+◌, ◌++◌, ◌∷◌, [], true, false, length, sym, subst, ◌∙◌, arith, filter, is_put, IsCapped}
 use Rattle.shr_audit_reasons.proofs.Counting.{filter_one}
 use Rattle.shr_audit_reasons.proofs.counted.add_put.Goals as goal

@@ -1,3 +1,4 @@
+-- SPDX-License-Identifier: GPL-2.0-only
 use Rattle.shr_audit_reasons.proofs.SpentCommon.{◌≡◌, ◌+◌, List, [], ◌∷◌, ◌++◌, length, take, sym, ap, subst, ◌∙◌, arith, filter, take_more, take_all, Command, is_put, IsCapped}
 use Rattle.shr_audit_reasons.proofs.counted.add_puts.Goals as goal
 

@@ -1,3 +1,4 @@
+-- SPDX-License-Identifier: GPL-2.0-only
 use Rattle.shr_audit_reasons.proofs.SpentCommon.{ℕ, ◌+◌, length, take, filter, is_put, IsCapped}
 use Rattle.shr_audit_reasons.proofs.counted.add_puts.Given as goal
 

@@ -1,3 +1,4 @@
+-- SPDX-License-Identifier: GPL-2.0-only
 use Rattle.shr_audit_reasons.proofs.SpentCommon.{ℕ, ◌+◌, List, length, sym, subst, ap, ◌∙◌, filter, sum_by, Command, WorkerScript, is_put, IsCapped}
 use Rattle.std.proofs.lemmas.List.Sums.{sum_by_push}
 use Rattle.shr_audit_reasons.proofs.counted.add_worker.Goals as goal

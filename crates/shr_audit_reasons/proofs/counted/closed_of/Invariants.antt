@@ -1,3 +1,4 @@
+-- SPDX-License-Identifier: GPL-2.0-only
 use Rattle.shr_audit_reasons.proofs.SpentCommon.{◌≡◌, take, closed_of}
 use Rattle.shr_audit_reasons.proofs.counted.closed_of.Given as goal
 

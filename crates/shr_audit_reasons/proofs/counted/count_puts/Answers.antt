@@ -1,3 +1,4 @@
+-- SPDX-License-Identifier: GPL-2.0-only
 use Rattle.shr_audit_reasons.proofs.SpentCommon.{ℕ, ◌≤◌, List, [], ◌∷◌, ◌++◌, ap, ◌∙◌, length, take, sym, subst, refl, arith, filter, sum_by, take_more, take_all, WorkerScript, is_put, IsCapped}
 use Rattle.shr_audit_reasons.proofs.counted.count_puts.Goals as goal
 

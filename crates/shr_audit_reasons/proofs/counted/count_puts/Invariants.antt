@@ -1,3 +1,4 @@
+-- SPDX-License-Identifier: GPL-2.0-only
 use Rattle.shr_audit_reasons.proofs.SpentCommon.{length, take, filter, sum_by, WorkerScript, is_put, IsCapped}
 use Rattle.shr_audit_reasons.proofs.counted.count_puts.Given as goal
 

@@ -1,3 +1,4 @@
+-- SPDX-License-Identifier: GPL-2.0-only
 use Rattle.shr_audit_reasons.proofs.SpentCommon.{List, take, sym, subst, ◌∙◌, take_more, take_all, UseStep, AreCounted}
 use Rattle.shr_audit_reasons.proofs.Counting.{none_counted}
 use Rattle.shr_audit_reasons.proofs.counted.count_steps.Goals as goal

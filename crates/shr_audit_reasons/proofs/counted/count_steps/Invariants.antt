@@ -1,3 +1,4 @@
+-- SPDX-License-Identifier: GPL-2.0-only
 use Rattle.shr_audit_reasons.proofs.SpentCommon.{◌≡◌, length, take, AreCounted}
 use Rattle.shr_audit_reasons.proofs.counted.count_steps.Given as goal
 

@@ -1,3 +1,4 @@
+-- SPDX-License-Identifier: GPL-2.0-only
 use Rattle.std.proofs.Common.{◌≡◌, drop}
 use Rattle.shr_model.specs.Items.{is_closed}
 use Rattle.shr_audit_reasons.proofs.counted.is_closed.Given as goal

@@ -1,3 +1,4 @@
+-- SPDX-License-Identifier: GPL-2.0-only
 use Rattle.shr_audit_reasons.proofs.SpentCommon.{ℕ, sym, ◌∙◌, subst, arith, IsCapped, get_or_default}
 use Rattle.shr_audit_reasons.proofs.Counting.{no_part, one_noted, other_kind}
 use Rattle.shr_audit_reasons.proofs.counted.note_step.Goals as goal

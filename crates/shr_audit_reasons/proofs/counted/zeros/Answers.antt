@@ -1,3 +1,4 @@
+-- SPDX-License-Identifier: GPL-2.0-only
 use Rattle.shr_audit_reasons.proofs.SpentCommon.{◌≡◌, ℕ, ◌+◌, List, [], ◌∷◌, length, length-append, get_or, sym, ap, subst, ◌∙◌, arith, zero_more}
 use Rattle.shr_audit_reasons.proofs.counted.zeros.Goals as goal
 

@@ -1,3 +1,4 @@
+-- SPDX-License-Identifier: GPL-2.0-only
 use Rattle.shr_audit_reasons.proofs.Common.{◌≡◌, ◌<◌, ℕ, Some, slice_get, Entry, IsDrainedRightly}
 use Rattle.shr_audit_reasons.proofs.drains.are_drained_rightly.Given as goal
 

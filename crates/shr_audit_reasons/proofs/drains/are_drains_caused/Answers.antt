@@ -1,3 +1,4 @@
+-- SPDX-License-Identifier: GPL-2.0-only
 use Rattle.shr_audit_reasons.proofs.Common.{List, subst, Decides, PlaceEnd, EachFirst, EachItem, IsDrainedRightly, each_entry_of}
 use Rattle.shr_audit_reasons.proofs.drains.are_drains_caused.Goals as goal
 

@@ -1,3 +1,4 @@
+-- SPDX-License-Identifier: GPL-2.0-only
 use Rattle.shr_audit_reasons.proofs.Common.{◌≡◌, ℕ, List, Some, slice_get, length, refl, Decides, PlaceEnd, EachFirst, IsFirst, EachItem, all_at, more_at, Report, IsDrainedRightly, slice_get_read, fails}
 use Rattle.shr_audit_replies.proofs.Deciding.{first_part}
 use Rattle.shr_audit_reasons.proofs.drains.are_lists_drained_rightly.Goals as goal

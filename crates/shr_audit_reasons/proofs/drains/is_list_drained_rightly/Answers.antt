@@ -1,3 +1,4 @@
+-- SPDX-License-Identifier: GPL-2.0-only
 use Rattle.shr_audit_reasons.proofs.Common.{List, subst, Decides, Entry, EachItem, IsDrainedRightly}
 use Rattle.shr_audit_reasons.proofs.drains.is_list_drained_rightly.Goals as goal
 

@@ -1,3 +1,4 @@
+-- SPDX-License-Identifier: GPL-2.0-only
 use Rattle.shr_audit_reasons.proofs.SpentCommon.{◌≡◌, ℕ, List, Some, slice_get, length, refl, subst, sym, Decides, slice_get_read, WorkerPart, Script, WalkRecord, EachItem, fails, Report, EachAttempt, IsRunCaused, all_at, more_at}
 use Rattle.shr_audit_reasons.proofs.passes.are_parts_caused.Goals as goal
 

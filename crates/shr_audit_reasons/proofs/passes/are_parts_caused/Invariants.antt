@@ -1,3 +1,4 @@
+-- SPDX-License-Identifier: GPL-2.0-only
 use Rattle.shr_audit_reasons.proofs.SpentCommon.{◌≡◌, ◌<◌, ℕ, Some, slice_get, WorkerPart, EachItem, EachAttempt, IsRunCaused}
 use Rattle.shr_audit_reasons.proofs.passes.are_parts_caused.Given as goal
 

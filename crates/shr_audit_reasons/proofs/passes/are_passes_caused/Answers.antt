@@ -1,3 +1,4 @@
+-- SPDX-License-Identifier: GPL-2.0-only
 use Rattle.shr_audit_reasons.proofs.SpentCommon.{◌≡◌, ℕ, List, Some, slice_get, subst, Decides, WorkerPart, EachItem, EachAttempt, IsRunCaused}
 use Rattle.shr_audit_case.proofs.Eachs.{each_walk_of}
 use Rattle.shr_audit_reasons.proofs.passes.are_passes_caused.Goals as goal

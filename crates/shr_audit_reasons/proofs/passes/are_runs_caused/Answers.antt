@@ -1,3 +1,4 @@
+-- SPDX-License-Identifier: GPL-2.0-only
 use Rattle.shr_audit_reasons.proofs.SpentCommon.{subst, Decides, IsRunCaused, each_more}
 use Rattle.shr_base.specs.Walks.{Attempt}
 use Rattle.shr_audit_reasons.proofs.passes.are_runs_caused.Goals as goal

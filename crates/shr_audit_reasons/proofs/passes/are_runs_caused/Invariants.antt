@@ -1,3 +1,4 @@
+-- SPDX-License-Identifier: GPL-2.0-only
 use Rattle.shr_audit_reasons.proofs.SpentCommon.{◌≡◌, ◌<◌, ℕ, Some, slice_get, IsRunCaused}
 use Rattle.shr_base.specs.Walks.{Attempt}
 use Rattle.shr_audit_reasons.proofs.passes.are_runs_caused.Given as goal

@@ -1,3 +1,4 @@
+-- SPDX-License-Identifier: GPL-2.0-only
 use Rattle.shr_audit_reasons.proofs.SpentCommon.{ℕ, length, refl, slice_get_read, Script, WalkRecord, EachItem, each_all, each_more, fails, Report, EachAttempt, IsRunCaused}
 use Rattle.shr_audit_reasons.proofs.passes.are_walks_caused.Goals as goal
 

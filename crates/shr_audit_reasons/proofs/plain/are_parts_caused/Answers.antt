@@ -1,3 +1,4 @@
+-- SPDX-License-Identifier: GPL-2.0-only
 use Rattle.shr_audit_reasons.proofs.SpentCommon.{◌≡◌, ℕ, List, Some, slice_get, length, refl, subst, Decides, slice_get_read, WorkerPart, Script, PlainTry, PlainWalk, EachItem, each_all, each_more, fails, Report, IsTryCaused}
 use Rattle.shr_audit_reasons.proofs.plain.are_parts_caused.Goals as goal
 

@@ -1,3 +1,4 @@
+-- SPDX-License-Identifier: GPL-2.0-only
 use Rattle.shr_audit_reasons.proofs.SpentCommon.{◌≡◌, ℕ, List, Some, slice_get, subst, Decides, WorkerPart, PlainTry, EachItem, IsTryCaused, IsTrySpent, EachTry}
 use Rattle.shr_audit_reasons.proofs.Finding.{each_plain_of}
 use Rattle.shr_audit_reasons.proofs.plain.are_tries_caused.Goals as goal

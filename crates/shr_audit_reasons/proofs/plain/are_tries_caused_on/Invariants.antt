@@ -1,3 +1,4 @@
+-- SPDX-License-Identifier: GPL-2.0-only
 use Rattle.shr_audit_reasons.proofs.SpentCommon.{◌≡◌, ◌<◌, ℕ, Some, slice_get, PlainTry, IsTryCaused}
 use Rattle.shr_audit_reasons.proofs.plain.are_tries_caused_on.Given as goal
 

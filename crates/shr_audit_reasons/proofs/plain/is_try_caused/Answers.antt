@@ -1,3 +1,4 @@
+-- SPDX-License-Identifier: GPL-2.0-only
 use Rattle.shr_audit_reasons.proofs.SpentCommon.{pool_place, IsTrySpent}
 use Rattle.shr_audit_reasons.proofs.plain.is_try_caused.Goals as goal
 use Rattle.shr_audit_formed.proofs.Eachs.{at_some}

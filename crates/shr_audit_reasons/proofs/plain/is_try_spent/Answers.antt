@@ -1,3 +1,4 @@
+-- SPDX-License-Identifier: GPL-2.0-only
 use Rattle.shr_audit_reasons.proofs.SpentCommon.{ap, sym, pool_place, IsEndSpent, pass_in}
 use Rattle.shr_base.specs.declared.walks.PassRecord.{PassRecord}
 use Rattle.shr_audit_reasons.proofs.plain.is_try_spent.Goals as goal

@@ -1,3 +1,4 @@
+-- SPDX-License-Identifier: GPL-2.0-only
 use Rattle.std.proofs.Common.{◌≡◌, ◌≤◌, ◌*◌, drop}
 use Rattle.std.specs.Prelude.{◌^◌, fold}
 use Rattle.shr_model.specs.Units.{free_after, free_of}

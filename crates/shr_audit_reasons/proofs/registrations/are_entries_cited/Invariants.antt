@@ -1,3 +1,4 @@
+-- SPDX-License-Identifier: GPL-2.0-only
 use Rattle.shr_audit_reasons.proofs.Common.{◌≡◌, ◌<◌, ◌≤◌, ℕ, Some, slice_get, PoolEntry, IsEntryCited}
 use Rattle.shr_audit_reasons.proofs.registrations.are_entries_cited.Given as goal
 

@@ -1,3 +1,4 @@
+-- SPDX-License-Identifier: GPL-2.0-only
 use Rattle.shr_audit_reasons.proofs.Making.{made_decided, renamed}
 use Rattle.shr_audit_reasons.proofs.registrations.are_registrations_caused.Goals as goal
 

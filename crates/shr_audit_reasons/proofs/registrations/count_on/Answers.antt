@@ -1,3 +1,4 @@
+-- SPDX-License-Identifier: GPL-2.0-only
 use Rattle.shr_audit_reasons.proofs.Common.{◌∙◌, ap, take_all}
 use Rattle.shr_audit_reasons.proofs.Making.{on_counted, on_in}
 use Rattle.shr_audit_reasons.proofs.registrations.count_on.Goals as goal

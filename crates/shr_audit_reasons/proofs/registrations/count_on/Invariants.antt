@@ -1,3 +1,4 @@
+-- SPDX-License-Identifier: GPL-2.0-only
 use Rattle.std.proofs.Common.{◌≡◌, ◌≤◌, take}
 use Rattle.shr_audit_reasons.proofs.Making.{on_in}
 use Rattle.shr_audit_reasons.proofs.registrations.count_on.Given as goal

@@ -1,3 +1,4 @@
+-- SPDX-License-Identifier: GPL-2.0-only
 use Rattle.shr_audit_reasons.proofs.Common.{◌≡◌, ℕ, List, Some, slice_get, subst, Decides, TreeEntry, EachItem, IsTreeNumbered, Cited, IsBeginCited}
 use Rattle.shr_audit_reasons.proofs.Treeing.{begins_of}
 use Rattle.shr_audit_reasons.proofs.trees.are_begins_caused.Goals as goal

@@ -1,3 +1,4 @@
+-- SPDX-License-Identifier: GPL-2.0-only
 use Rattle.shr_audit_reasons.proofs.Common.{◌≡◌, ◌<◌, ℕ, Some, slice_get, TreeEntry, IsBeginCited}
 use Rattle.shr_audit_reasons.proofs.trees.are_begins_cited.Given as goal
 

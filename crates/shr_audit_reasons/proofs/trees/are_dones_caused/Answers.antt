@@ -1,3 +1,4 @@
+-- SPDX-License-Identifier: GPL-2.0-only
 use Rattle.shr_audit_reasons.proofs.Common.{◌≡◌, ℕ, List, Some, length, slice_get, subst, Decides, TreeEntry, Cited, AreCited, IsDoneNotedOnce}
 use Rattle.shr_audit_reasons.specs.declared.cites.What.TheVariants as what
 use Rattle.shr_audit_reasons.proofs.Treeing.{dones_of}

@@ -1,3 +1,4 @@
+-- SPDX-License-Identifier: GPL-2.0-only
 use Rattle.shr_audit_reasons.proofs.Common.{◌≡◌, ◌<◌, ℕ, Some, slice_get, TreeEntry, IsMadeNotedOnce}
 use Rattle.shr_audit_reasons.proofs.trees.are_mades_once.Given as goal
 

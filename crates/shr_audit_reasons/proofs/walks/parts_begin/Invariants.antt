@@ -1,3 +1,4 @@
+-- SPDX-License-Identifier: GPL-2.0-only
 use Rattle.shr_audit_reasons.proofs.Common.{◌≡◌, ◌<◌, ℕ, Some, slice_get, WorkerPart, EachItem, CitesBegin}
 use Rattle.shr_audit_reasons.proofs.walks.parts_begin.Given as goal
 

@@ -1,3 +1,4 @@
+-- SPDX-License-Identifier: GPL-2.0-only
 use Rattle.shr_audit_reasons.proofs.Common.{List, subst, Decides, WorkerPart, each_walk_of, EachItem, CitesBegin}
 use Rattle.shr_audit_reasons.proofs.walks.walks_begin.Goals as goal
 

@@ -1,3 +1,4 @@
+-- SPDX-License-Identifier: GPL-2.0-only
 use Rattle.shr_audit_replies.proofs.Common.{◌≡◌, ℕ, List, Some, slice_get, subst, Decides, WorkerPart, Answered, Command, command_at, serial_of, IsAnswered}
 use Rattle.shr_audit_case.proofs.Eachs.{each_answer_of}
 use Rattle.shr_audit_replies.proofs.answered.are_answered.Goals as goal

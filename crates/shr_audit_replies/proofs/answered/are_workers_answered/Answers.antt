@@ -1,3 +1,4 @@
+-- SPDX-License-Identifier: GPL-2.0-only
 use Rattle.shr_audit_replies.proofs.Common.{◌≡◌, ℕ, List, Some, slice_get, subst, sym, WorkerPart, Answered, Command, Script, more_at, all_at, Report, command_at, serial_of, IsAnswered}
 use Rattle.shr_audit_replies.proofs.answered.are_workers_answered.Goals as goal
 

@@ -1,3 +1,4 @@
+-- SPDX-License-Identifier: GPL-2.0-only
 use Rattle.shr_audit_replies.proofs.Common.{Command, command_at, serial_of, IsAnswered}
 use Rattle.shr_audit_replies.proofs.answered.is_answered.Goals as goal
 use Rattle.shr_audit_formed.proofs.Eachs.{at_some}

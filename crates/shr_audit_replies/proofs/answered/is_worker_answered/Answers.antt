@@ -1,3 +1,4 @@
+-- SPDX-License-Identifier: GPL-2.0-only
 use Rattle.shr_audit_replies.proofs.Common.{◌≡◌, ℕ, Some, Answered, Command, Script, Report, command_at, serial_of, more_at, all_at, IsAnswered}
 use Rattle.shr_audit_replies.proofs.answered.is_worker_answered.Goals as goal
 

@@ -1,3 +1,4 @@
+-- SPDX-License-Identifier: GPL-2.0-only
 use Rattle.shr_audit_replies.proofs.Common.{◌≡◌, ◌<◌, ℕ, Some, slice_get, Answered, Command, command_at, serial_of, IsAnswered}
 use Rattle.shr_audit_replies.proofs.answered.is_worker_answered.Given as goal
 

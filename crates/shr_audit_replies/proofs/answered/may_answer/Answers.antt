@@ -1,3 +1,4 @@
+-- SPDX-License-Identifier: GPL-2.0-only
 use Rattle.shr_laws.specs.Parts.{journals_of, parents_of, serial_of}
 use Rattle.shr_audit_replies.proofs.answered.may_answer.Goals as goal
 

@@ -1,3 +1,4 @@
+-- SPDX-License-Identifier: GPL-2.0-only
 use Rattle.shr_audit_replies.proofs.Common.{IsCited, more_at, all_at}
 use Rattle.shr_audit_replies.proofs.cited.are_cited.Goals as goal
 

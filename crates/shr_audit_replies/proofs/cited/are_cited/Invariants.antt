@@ -1,3 +1,4 @@
+-- SPDX-License-Identifier: GPL-2.0-only
 use Rattle.shr_audit_replies.proofs.Common.{◌≡◌, ◌<◌, ℕ, Some, slice_get, Entry, IsCited}
 use Rattle.shr_audit_replies.proofs.cited.are_cited.Given as goal
 

@@ -1,3 +1,4 @@
+-- SPDX-License-Identifier: GPL-2.0-only
 use Rattle.shr_audit_replies.proofs.Common.{◌≡◌, ℕ, List, Some, slice_get, subst, Decides, PlaceEnd, Entry, EachFirst, IsCited}
 use Rattle.shr_audit_case.proofs.Eachs.{each_entry_of}
 use Rattle.shr_audit_replies.proofs.cited.are_entries_cited.Goals as goal

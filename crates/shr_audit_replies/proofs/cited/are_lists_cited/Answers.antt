@@ -1,3 +1,4 @@
+-- SPDX-License-Identifier: GPL-2.0-only
 use Rattle.shr_audit_replies.proofs.Common.{◌≡◌, ℕ, List, Some, slice_get, length, refl, Decides, slice_get_read, PlaceEnd, Entry, EachFirst, IsFirst, all_at, fails, more_at, Report, IsCited}
 use Rattle.shr_audit_replies.proofs.Deciding.{first_part}
 use Rattle.shr_audit_replies.proofs.cited.are_lists_cited.Goals as goal

@@ -1,3 +1,4 @@
+-- SPDX-License-Identifier: GPL-2.0-only
 use Rattle.shr_audit_replies.proofs.Common.{◌≡◌, ◌<◌, ℕ, Some, slice_get, PlaceEnd, Entry, IsFirst, IsCited}
 use Rattle.shr_audit_replies.proofs.cited.are_lists_cited.Given as goal
 

@@ -1,3 +1,4 @@
+-- SPDX-License-Identifier: GPL-2.0-only
 use Rattle.shr_audit_replies.proofs.Common.{◌≡◌, ℕ, List, Some, slice_get, subst, Decides, Entry, IsCited}
 use Rattle.shr_audit_replies.proofs.cited.is_list_cited.Goals as goal
 

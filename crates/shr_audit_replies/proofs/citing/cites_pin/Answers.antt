@@ -1,3 +1,4 @@
+-- SPDX-License-Identifier: GPL-2.0-only
 use Rattle.shr_audit_replies.proofs.Common.{Pin, journals_of, serial_of}
 use Rattle.shr_audit_replies.proofs.Deciding.{cites_same, cites_none}
 use Rattle.shr_audit_replies.proofs.citing.cites_pin.Goals as goal

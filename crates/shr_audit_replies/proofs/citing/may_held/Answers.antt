@@ -1,3 +1,4 @@
+-- SPDX-License-Identifier: GPL-2.0-only
 use Rattle.shr_audit_replies.proofs.Common.{On, Put, Some, Decides, IsReply, MayReply, subst}
 use Rattle.shr_audit_replies.specs.declared.entries.Tenant.{Tenant}
 use Rattle.shr_laws.specs.Parts.{journals_of, serial_of}

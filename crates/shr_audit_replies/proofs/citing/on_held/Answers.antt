@@ -1,3 +1,4 @@
+-- SPDX-License-Identifier: GPL-2.0-only
 use Rattle.shr_audit_replies.proofs.citing.on_held.Goals as goal
 
 pub returns-in-Get : goal.returns-in-Get

@@ -1,3 +1,4 @@
+-- SPDX-License-Identifier: GPL-2.0-only
 use Rattle.shr_audit_replies.proofs.Common.{map, GroupDecl}
 use Rattle.shr_audit_replies.proofs.Mapped.{rooted}
 use Rattle.shr_audit_replies.proofs.heads.are_all_paths.Goals as goal

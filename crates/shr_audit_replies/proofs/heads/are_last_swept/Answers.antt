@@ -1,3 +1,4 @@
+-- SPDX-License-Identifier: GPL-2.0-only
 use Rattle.shr_audit_replies.proofs.Common.{◌≤◌, ℕ, length, Option, refl, sym, ap, ◌∙◌, inl, inr, arith, slice_get, slice_get_cases, none-some, WorkerPart, Script, Report, commands_of, IsLastSwept, below_more, slice_get_past, answers_in}
 use Rattle.shr_audit_replies.proofs.heads.are_last_swept.Goals as goal
 

@@ -1,3 +1,4 @@
+-- SPDX-License-Identifier: GPL-2.0-only
 use Rattle.shr_audit_replies.proofs.Common.{◌<◌, ℕ, IsLastSwept}
 use Rattle.shr_audit_replies.proofs.heads.are_last_swept.Given as goal
 

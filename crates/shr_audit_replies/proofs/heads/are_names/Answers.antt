@@ -1,3 +1,4 @@
+-- SPDX-License-Identifier: GPL-2.0-only
 use Rattle.shr_base.specs.declared.scripts.CacheDecl.{CacheDecl}
 use Rattle.shr_audit_replies.proofs.Mapped.{other_at, mapped_more, mapped_end}
 use Rattle.shr_audit_replies.proofs.heads.are_names.Goals as goal

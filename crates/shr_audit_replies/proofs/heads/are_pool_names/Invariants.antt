@@ -1,3 +1,4 @@
+-- SPDX-License-Identifier: GPL-2.0-only
 use Rattle.shr_audit_replies.proofs.Common.{◌≡◌, ◌<◌, ℕ, List, Some, slice_get, PoolDecl}
 use Rattle.shr_audit_replies.proofs.heads.are_pool_names.Given as goal
 

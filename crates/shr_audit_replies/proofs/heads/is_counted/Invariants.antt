@@ -1,3 +1,4 @@
+-- SPDX-License-Identifier: GPL-2.0-only
 use Rattle.shr_audit_replies.proofs.Common.{◌<◌, ℕ, HasAnswers}
 use Rattle.shr_audit_replies.proofs.heads.is_counted.Given as goal
 

@@ -1,3 +1,4 @@
+-- SPDX-License-Identifier: GPL-2.0-only
 use Rattle.shr_audit_replies.proofs.Common.{fails, AreAnswered, AreEntriesCited, AllHaveAnswers, AreLastSwept, AreRepliesLawfulButValues, HasHeads}
 use Rattle.shr_audit_replies.proofs.Answering.{journals_rise, replies_rise}
 use Rattle.shr_audit_replies.proofs.law.are_replies_lawful_but_values.Goals as goal

@@ -1,3 +1,4 @@
+-- SPDX-License-Identifier: GPL-2.0-only
 use Rattle.shr_audit_replies.proofs.Common.{fails, HasNames, HasPaths, HasSizes, HasHeads}
 use Rattle.shr_audit_replies.proofs.law.has_heads.Goals as goal
 

@@ -1,3 +1,4 @@
+-- SPDX-License-Identifier: GPL-2.0-only
 use Rattle.shr_audit_replies.proofs.LendingCommon.{◌≡◌, ℕ, List, length, Option, Some, refl, subst, ◌∙◌, arith, slice_get, Decides, slice_get_read, all_at, fails, more_at, AreMetLent, IsLent, IsMetLent}
 use Rattle.shr_audit_replies.proofs.Lending.{ahead_first, ahead_next, first_met}
 use Rattle.shr_audit_replies.proofs.lent.are_lent.Goals as goal

@@ -1,3 +1,4 @@
+-- SPDX-License-Identifier: GPL-2.0-only
 use Rattle.shr_audit_replies.proofs.LendingCommon.{◌≡◌, ◌<◌, ℕ, List, [], Some, slice_get, Entry, Object, values_from, AreAhead, IsMetLent}
 use Rattle.shr_audit_replies.proofs.lent.are_lent.Given as goal
 

@@ -1,3 +1,4 @@
+-- SPDX-License-Identifier: GPL-2.0-only
 use Rattle.shr_audit_replies.proofs.LendingCommon.{◌≡◌, ℕ, List, Some, length, refl, slice_get, Decides, slice_get_read, PlaceEnd, EachFirst, IsFirst, all_at, fails, more_at, Report, AreValuesLentAt}
 use Rattle.shr_audit_replies.proofs.Deciding.{first_part}
 use Rattle.shr_audit_replies.proofs.lent.are_lists_lent.Goals as goal

@@ -1,3 +1,4 @@
+-- SPDX-License-Identifier: GPL-2.0-only
 use Rattle.shr_audit_replies.proofs.LendingCommon.{◌≡◌, ◌<◌, ℕ, Some, slice_get, PlaceEnd, IsFirst, AreValuesLentAt}
 use Rattle.shr_audit_replies.proofs.lent.are_lists_lent.Given as goal
 

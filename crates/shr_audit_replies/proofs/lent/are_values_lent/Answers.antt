@@ -1,3 +1,4 @@
+-- SPDX-License-Identifier: GPL-2.0-only
 use Rattle.shr_audit_replies.proofs.LendingCommon.{List, subst, Decides, PlaceEnd, EachFirst, AreValuesLentAt}
 use Rattle.shr_audit_replies.proofs.Places.{each_place_lent}
 use Rattle.shr_audit_replies.proofs.lent.are_values_lent.Goals as goal

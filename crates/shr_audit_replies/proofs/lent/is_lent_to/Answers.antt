@@ -1,3 +1,4 @@
+-- SPDX-License-Identifier: GPL-2.0-only
 use Rattle.shr_audit_replies.specs.Lent.{value_first}
 use Rattle.shr_audit_replies.proofs.LentReplying.{answer_lends}
 use Rattle.shr_audit_replies.proofs.lent.is_lent_to.Goals as goal

@@ -1,3 +1,4 @@
+-- SPDX-License-Identifier: GPL-2.0-only
 use Rattle.shr_audit_replies.proofs.LendingCommon.{List, [], sym, ap, ◌∙◌, Entry, lists_moved_at, values_from, journals_of}
 use Rattle.shr_audit_replies.proofs.Places.{lent_at}
 use Rattle.shr_audit_replies.proofs.lent.is_place_lent.Goals as goal

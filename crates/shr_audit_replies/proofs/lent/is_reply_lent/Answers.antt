@@ -1,3 +1,4 @@
+-- SPDX-License-Identifier: GPL-2.0-only
 use Rattle.shr_audit_replies.proofs.LendingCommon.{at, value_first}
 use Rattle.shr_audit_replies.proofs.LentReplying.{hit_lends}
 use Rattle.shr_audit_replies.proofs.lent.is_reply_lent.Goals as goal

@@ -1,3 +1,4 @@
+-- SPDX-License-Identifier: GPL-2.0-only
 use Rattle.shr_audit_replies.proofs.OnceCommon.{ℕ, ◌≤◌, subst, arith, upto_all, upto_fails, upto_more, IsCitedOnceAt}
 use Rattle.shr_audit_replies.proofs.OnceLaws.{past_workers}
 use Rattle.shr_audit_replies.proofs.once.are_cited_once.Goals as goal

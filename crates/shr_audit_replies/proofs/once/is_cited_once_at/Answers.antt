@@ -1,3 +1,4 @@
+-- SPDX-License-Identifier: GPL-2.0-only
 use Rattle.shr_audit_replies.proofs.OnceCommon.{List, subst, Decides, PlaceEnd, IsPrintedOnce}
 use Rattle.shr_audit_replies.proofs.OnceLaws.{cites_one}
 use Rattle.shr_audit_replies.proofs.once.is_cited_once_at.Goals as goal

@@ -1,3 +1,4 @@
+-- SPDX-License-Identifier: GPL-2.0-only
 use Rattle.std.proofs.Common.{arith}
 use Rattle.shr_audit_replies.proofs.OnceLaws.{last_one, next_decides, none_printed}
 use Rattle.shr_audit_replies.proofs.once.is_printed_once.Goals as goal

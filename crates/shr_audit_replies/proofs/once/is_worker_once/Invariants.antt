@@ -1,3 +1,4 @@
+-- SPDX-License-Identifier: GPL-2.0-only
 use Rattle.shr_audit_replies.proofs.OnceCommon.{ℕ, ◌<◌, IsCitedOnceAt}
 use Rattle.shr_audit_replies.proofs.once.is_worker_once.Given as goal
 

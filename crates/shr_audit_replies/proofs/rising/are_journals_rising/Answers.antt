@@ -1,3 +1,4 @@
+-- SPDX-License-Identifier: GPL-2.0-only
 use Rattle.shr_audit_replies.proofs.Common.{[], List, subst, arith, Decides, slice_get_within, PlaceEnd, EachFirst, AreCommandsRising}
 use Rattle.shr_audit_case.proofs.Eachs.{each_place_of}
 use Rattle.shr_audit_replies.proofs.rising.are_journals_rising.Goals as goal

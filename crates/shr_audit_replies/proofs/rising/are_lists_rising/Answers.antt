@@ -1,3 +1,4 @@
+-- SPDX-License-Identifier: GPL-2.0-only
 use Rattle.shr_audit_replies.proofs.Common.{◌≡◌, ℕ, List, Some, slice_get, length, refl, arith, Decides, slice_get_read, PlaceEnd, EachFirst, IsFirst, all_at, fails, more_at, AreCommandsRising}
 use Rattle.shr_audit_replies.proofs.Deciding.{first_part}
 use Rattle.shr_audit_replies.proofs.rising.are_lists_rising.Goals as goal

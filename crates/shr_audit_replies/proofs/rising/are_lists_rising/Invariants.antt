@@ -1,3 +1,4 @@
+-- SPDX-License-Identifier: GPL-2.0-only
 use Rattle.shr_audit_replies.proofs.Common.{◌≡◌, ◌+◌, ◌<◌, ℕ, Some, slice_get, PlaceEnd, IsFirst, AreCommandsRising, AreOfEarlierJournals}
 use Rattle.shr_audit_replies.proofs.rising.are_lists_rising.Given as goal
 

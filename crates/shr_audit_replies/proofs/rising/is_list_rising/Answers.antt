@@ -1,3 +1,4 @@
+-- SPDX-License-Identifier: GPL-2.0-only
 use Rattle.shr_audit_replies.proofs.Common.{List, subst, Decides, Entry, AreCommandsRising}
 use Rattle.shr_audit_replies.proofs.Risings.{below_more}
 use Rattle.shr_audit_replies.proofs.rising.is_list_rising.Goals as goal

@@ -1,3 +1,4 @@
+-- SPDX-License-Identifier: GPL-2.0-only
 use Rattle.shr_audit_replies.proofs.Common.{◌≡◌, Some, length, refl, slice_get, slice_get_read, by_of}
 use Rattle.shr_audit_replies.proofs.Risings.{all_below, fails, more, none_noted, whole}
 use Rattle.shr_audit_replies.proofs.rising.is_rising.Goals as goal

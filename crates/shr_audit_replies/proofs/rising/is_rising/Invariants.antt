@@ -1,3 +1,4 @@
+-- SPDX-License-Identifier: GPL-2.0-only
 use Rattle.shr_audit_replies.proofs.Risings.{AreNoted}
 use Rattle.shr_audit_replies.proofs.rising.is_rising.Given as goal
 

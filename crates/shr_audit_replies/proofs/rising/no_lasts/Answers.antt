@@ -1,3 +1,4 @@
+-- SPDX-License-Identifier: GPL-2.0-only
 use Rattle.shr_audit_replies.proofs.Common.{ap, arith, length, ◌∙◌, ◌∷◌, [], subst, List, ℕ, ◌<◌, sym, ◌+◌, Last, last_of_worker, no_last, length-append}
 use Rattle.shr_audit_replies.proofs.Risings.{below_none, below_push}
 use Rattle.shr_audit_replies.proofs.rising.no_lasts.Goals as goal

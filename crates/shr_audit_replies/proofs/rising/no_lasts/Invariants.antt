@@ -1,3 +1,4 @@
+-- SPDX-License-Identifier: GPL-2.0-only
 use Rattle.shr_audit_replies.proofs.Common.{◌≡◌, ◌<◌, ℕ, length, last_of_worker}
 use Rattle.shr_audit_replies.proofs.rising.no_lasts.Given as goal
 

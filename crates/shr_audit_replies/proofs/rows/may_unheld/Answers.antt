@@ -1,3 +1,4 @@
+-- SPDX-License-Identifier: GPL-2.0-only
 use Rattle.shr_audit_replies.proofs.rows.may_unheld.Goals as goal
 
 pub returns-in-Put : goal.returns-in-Put

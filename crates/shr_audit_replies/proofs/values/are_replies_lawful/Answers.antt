@@ -1,3 +1,4 @@
+-- SPDX-License-Identifier: GPL-2.0-only
 use Rattle.shr_audit_formed.proofs.Eachs.{fails}
 use Rattle.shr_laws.specs.Replies.{AreRepliesLawful}
 use Rattle.shr_audit_replies.specs.Law.{AreRepliesLawfulButValues}

@@ -1,3 +1,4 @@
+-- SPDX-License-Identifier: GPL-2.0-only
 use Rattle.shr_audit_rows.proofs.Common.{◌≡◌, List, Option, length, subst, sym, arith, answers_of, Asked, AddsSo, IsSoIfAsked, asked_at}
 use Rattle.shr_audit_rows.proofs.AskedLaws.{adds_end, adds_next, adds_one, adds_start}
 use Rattle.shr_audit_rows.proofs.asked.add_worker.Goals as goal

@@ -1,3 +1,4 @@
+-- SPDX-License-Identifier: GPL-2.0-only
 use Rattle.shr_audit_rows.proofs.Common.{ℕ, ◌<◌, AddsSo, IsSoIfAsked, asked_at}
 use Rattle.shr_audit_rows.proofs.asked.add_worker.Given as goal
 

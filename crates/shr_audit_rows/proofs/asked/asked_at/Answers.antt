@@ -1,3 +1,4 @@
+-- SPDX-License-Identifier: GPL-2.0-only
 use Rattle.shr_audit_rows.proofs.AskedLaws.{no_answer, no_command, said_here}
 use Rattle.shr_audit_rows.proofs.asked.asked_at.Goals as goal
 

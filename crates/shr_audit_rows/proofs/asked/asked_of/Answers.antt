@@ -1,3 +1,4 @@
+-- SPDX-License-Identifier: GPL-2.0-only
 use Rattle.std.proofs.Common.{ℕ, ◌≤◌, subst}
 use Rattle.shr_audit_rows.proofs.AskedLaws.{IsWorkerSo, adds_next, adds_start, all_said}
 use Rattle.shr_audit_rows.proofs.asked.asked_of.Goals as goal

@@ -1,3 +1,4 @@
+-- SPDX-License-Identifier: GPL-2.0-only
 use Rattle.shr_audit_rows.proofs.Common.{ℕ, ◌<◌, AddsSo}
 use Rattle.shr_audit_rows.proofs.AskedLaws.{IsWorkerSo}
 use Rattle.shr_audit_rows.proofs.asked.asked_of.Given as goal

@@ -1,3 +1,4 @@
+-- SPDX-License-Identifier: GPL-2.0-only
 use Rattle.shr_audit_rows.proofs.Common.{false, GroupDecl}
 use Rattle.shr_audit_rows.proofs.GroupLaws.{group_none, group_root, group_some}
 use Rattle.shr_audit_rows.proofs.groups.is_later.Goals as goal

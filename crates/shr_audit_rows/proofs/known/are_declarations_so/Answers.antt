@@ -1,3 +1,4 @@
+-- SPDX-License-Identifier: GPL-2.0-only
 use Rattle.shr_audit_rows.proofs.Common.{List, subst, Decides, EachItem, Asked, IsAskedRight}
 use Rattle.shr_audit_rows.proofs.KnownLaws.{in_any_order}
 use Rattle.shr_audit_rows.proofs.known.are_declarations_so.Goals as goal

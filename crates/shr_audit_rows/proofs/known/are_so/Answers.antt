@@ -1,3 +1,4 @@
+-- SPDX-License-Identifier: GPL-2.0-only
 use Rattle.shr_audit_rows.proofs.Common.{arith, IsAskedRight, each_all}
 use Rattle.shr_audit_rows.proofs.KnownLaws.{at_entry, from_start, low_next, so_fails}
 use Rattle.shr_audit_rows.proofs.known.are_so.Goals as goal

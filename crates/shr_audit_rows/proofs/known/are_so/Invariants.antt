@@ -1,3 +1,4 @@
+-- SPDX-License-Identifier: GPL-2.0-only
 use Rattle.shr_audit_rows.proofs.Common.{◌≡◌, ℕ, ◌<◌, ◌≤◌, Some, get_or, length, take, slice_get, Asked, IsAskedRight, Stands}
 use Rattle.shr_audit_rows.proofs.known.are_so.Given as goal
 

@@ -1,3 +1,4 @@
+-- SPDX-License-Identifier: GPL-2.0-only
 use Rattle.shr_audit_rows.proofs.Common.{Bool, subst, sym, take, Decides, IsSaid}
 use Rattle.shr_audit_rows.proofs.KnownLaws.{said_cached, said_full, said_uncached}
 use Rattle.shr_audit_rows.proofs.known.is_said.Goals as goal

@@ -1,3 +1,4 @@
+-- SPDX-License-Identifier: GPL-2.0-only
 use Rattle.std.proofs.Common.{arith}
 use Rattle.shr_audit_rows.proofs.KnownLaws.{not_known, so_none, so_of}
 use Rattle.shr_audit_rows.proofs.known.is_so.Goals as goal

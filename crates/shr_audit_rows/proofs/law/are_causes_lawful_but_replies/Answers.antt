@@ -1,3 +1,4 @@
+-- SPDX-License-Identifier: GPL-2.0-only
 use Rattle.shr_audit_formed.proofs.Eachs.{fails}
 use Rattle.shr_audit_rows.specs.Law.{AreCausesLawfulButReplies, AreEntriesCaused, AreWalksCaused}
 use Rattle.shr_audit_rows.proofs.law.are_causes_lawful_but_replies.Goals as goal

@@ -1,3 +1,4 @@
+-- SPDX-License-Identifier: GPL-2.0-only
 use Rattle.shr_audit_rows.proofs.Common.{fails, AreEntriesCaused}
 use Rattle.shr_audit_reasons.specs.Registrations.{AreRegistrationsCaused}
 use Rattle.shr_audit_reasons.specs.Trees.{AreBeginsCaused, AreDonesCaused, AreMadesCaused}

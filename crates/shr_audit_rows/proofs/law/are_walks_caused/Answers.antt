@@ -1,3 +1,4 @@
+-- SPDX-License-Identifier: GPL-2.0-only
 use Rattle.shr_audit_rows.proofs.Common.{fails, AreWalksCaused, EachAttempt, EachWalk}
 use Rattle.shr_audit_reasons.specs.Walks.{CitesBegin, IsWornRightly}
 use Rattle.shr_audit_reasons.specs.Passes.{ArePassesCaused}

@@ -1,3 +1,4 @@
+-- SPDX-License-Identifier: GPL-2.0-only
 use Rattle.shr_base.specs.declared.scripts.GroupDecl.{GroupDecl}
 use Rattle.shr_audit_rows.proofs.GroupLaws.{group_none, group_root, group_some}
 use Rattle.shr_audit_rows.proofs.named.parent_of.Goals as goal

@@ -1,3 +1,4 @@
+-- SPDX-License-Identifier: GPL-2.0-only
 use Rattle.shr_audit_rows.proofs.Common.{◌≡◌, subst, sym, PoolEntry, decl_after, id_of}
 use Rattle.shr_audit_rows.proofs.PooledLaws.{decl_registered}
 use Rattle.shr_audit_rows.proofs.pooled.decl_after.Goals as goal

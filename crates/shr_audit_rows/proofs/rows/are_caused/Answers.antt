@@ -1,3 +1,4 @@
+-- SPDX-License-Identifier: GPL-2.0-only
 use Rattle.shr_audit_rows.proofs.Common.{ℕ, ◌≤◌, subst, arith, upto_all, upto_fails, upto_more, IsCausedAt}
 use Rattle.shr_audit_rows.proofs.RowLaws.{past_workers}
 use Rattle.shr_audit_rows.proofs.rows.are_caused.Goals as goal

@@ -1,3 +1,4 @@
+-- SPDX-License-Identifier: GPL-2.0-only
 use Rattle.shr_audit_rows.proofs.RowLaws.{rows_decided, rows_fail}
 use Rattle.shr_audit_rows.proofs.rows.are_rows_caused_but_ends.Goals as goal
 

@@ -1,3 +1,4 @@
+-- SPDX-License-Identifier: GPL-2.0-only
 use Rattle.shr_audit_rows.proofs.RowLaws.{counted_too, no_answer, no_command, part_there, state_fails}
 use Rattle.shr_audit_rows.proofs.rows.is_caused_at.Goals as goal
 

@@ -1,3 +1,4 @@
+-- SPDX-License-Identifier: GPL-2.0-only
 use Rattle.shr_audit_rows.proofs.Common.{ℕ, Option, subst, sym, Decides, IsSomeAnd, Reply, HasCountCause}
 use Rattle.shr_audit_rows.specs.Registered.{EntryRegisters}
 use Rattle.shr_audit_rows.proofs.rows.is_count_caused.Goals as goal

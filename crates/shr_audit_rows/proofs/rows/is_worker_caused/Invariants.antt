@@ -1,3 +1,4 @@
+-- SPDX-License-Identifier: GPL-2.0-only
 use Rattle.shr_audit_rows.proofs.Common.{ℕ, ◌<◌, IsCausedAt}
 use Rattle.shr_audit_rows.proofs.rows.is_worker_caused.Given as goal
 

@@ -1,3 +1,4 @@
+-- SPDX-License-Identifier: GPL-2.0-only
 use Rattle.shr_audit_rows.proofs.TriedLaws.{tries_none}
 use Rattle.shr_audit_rows.proofs.tried.blank.Goals as goal
 

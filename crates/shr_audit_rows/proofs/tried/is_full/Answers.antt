@@ -1,3 +1,4 @@
+-- SPDX-License-Identifier: GPL-2.0-only
 use Rattle.shr_audit_rows.proofs.OverLaws.{full_at, full_away, full_free, le_decides}
 use Rattle.shr_audit_rows.proofs.tried.is_full.Goals as goal
 

@@ -1,3 +1,4 @@
+-- SPDX-License-Identifier: GPL-2.0-only
 use Rattle.shr_audit_rows.proofs.Common.{arith, refl, nat_eq, get, IsTriedKeyed, tried_key}
 use Rattle.shr_audit_rows.proofs.OverLaws.{not_fourteen, not_last, over_decided}
 use Rattle.shr_audit_rows.proofs.tried.is_over.Goals as goal

@@ -1,3 +1,4 @@
+-- SPDX-License-Identifier: GPL-2.0-only
 use Rattle.shr_audit_rows.proofs.Common.{◌∙◌, ◌<◌, length, arith, get_or_default}
 use Rattle.shr_audit_rows.proofs.TriedLaws.{step_down, step_up}
 use Rattle.shr_audit_rows.proofs.tried.note.Goals as goal

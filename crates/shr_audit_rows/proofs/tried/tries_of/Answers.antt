@@ -1,3 +1,4 @@
+-- SPDX-License-Identifier: GPL-2.0-only
 use Rattle.shr_audit_rows.proofs.Common.{take, arith, length-take}
 use Rattle.shr_audit_rows.proofs.TriedLaws.{tries_all, tries_more, uses_few}
 use Rattle.shr_audit_rows.proofs.tried.tries_of.Goals as goal

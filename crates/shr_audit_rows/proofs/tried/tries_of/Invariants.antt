@@ -1,3 +1,4 @@
+-- SPDX-License-Identifier: GPL-2.0-only
 use Rattle.shr_audit_rows.proofs.Common.{take, AreTries}
 use Rattle.shr_audit_rows.proofs.tried.tries_of.Given as goal
 

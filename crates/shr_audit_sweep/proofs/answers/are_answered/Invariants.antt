@@ -1,3 +1,4 @@
+-- SPDX-License-Identifier: GPL-2.0-only
 use Rattle.shr_audit_sweep.proofs.Common.{◌<◌, ℕ, IsSomeAnd, IsSwept, sweep_serial, sweep_walks, answer_at}
 use Rattle.shr_audit_sweep.proofs.answers.are_answered.Given as goal
 

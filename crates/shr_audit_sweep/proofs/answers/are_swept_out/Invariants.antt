@@ -1,3 +1,4 @@
+-- SPDX-License-Identifier: GPL-2.0-only
 use Rattle.shr_audit_sweep.proofs.Common.{◌<◌, ℕ, IsSomeAnd, sweep_serial, reply_at, IsSweptOut}
 use Rattle.shr_audit_sweep.proofs.answers.are_swept_out.Given as goal
 

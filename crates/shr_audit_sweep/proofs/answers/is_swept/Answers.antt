@@ -1,3 +1,4 @@
+-- SPDX-License-Identifier: GPL-2.0-only
 use Rattle.std.proofs.Common.{◌∙◌, sym}
 use Rattle.shr_audit_sweep.proofs.Sweeping.{swept_cut, swept_told}
 use Rattle.shr_audit_sweep.proofs.answers.is_swept.Goals as goal

@@ -1,3 +1,4 @@
+-- SPDX-License-Identifier: GPL-2.0-only
 use Rattle.shr_audit_sweep.proofs.Common.{◌<◌, ℕ, IsGroupMarked}
 use Rattle.shr_audit_sweep.proofs.marks.are_marked.Given as goal
 

@@ -1,3 +1,4 @@
+-- SPDX-License-Identifier: GPL-2.0-only
 use Rattle.std.proofs.Common.{◌+◌}
 use Rattle.shr_audit_sweep.proofs.Marking.{once_walked, parents_count, whole_walked}
 use Rattle.shr_audit_sweep.proofs.marks.are_walked.Goals as goal

@@ -1,3 +1,4 @@
+-- SPDX-License-Identifier: GPL-2.0-only
 use Rattle.std.proofs.Common.{◌≡◌, ℕ, false, get_or, length}
 use Rattle.shr_audit_sweep.proofs.marks.blank.Given as goal
 

@@ -1,3 +1,4 @@
+-- SPDX-License-Identifier: GPL-2.0-only
 use Rattle.shr_audit_sweep.proofs.Common.{◌≡◌, ◌<◌, ℕ, true, false, get_or, job_index}
 use Rattle.shr_audit_sweep.proofs.marks.is_group_marked.Given as goal
 

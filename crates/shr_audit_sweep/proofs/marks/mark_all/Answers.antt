@@ -1,3 +1,4 @@
+-- SPDX-License-Identifier: GPL-2.0-only
 use Rattle.std.proofs.Common.{◌+◌, ◌<◌, ◌≤◌, length, refl, subst, arith}
 use Rattle.shr_audit_sweep.proofs.Marking.{groups_same, parents_count, swept_to, workers_all, workers_more, workers_twice}
 use Rattle.shr_audit_sweep.proofs.marks.mark_all.Goals as goal

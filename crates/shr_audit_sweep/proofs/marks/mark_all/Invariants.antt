@@ -1,3 +1,4 @@
+-- SPDX-License-Identifier: GPL-2.0-only
 use Rattle.shr_audit_sweep.proofs.Common.{length, parents_of, AreMarked}
 use Rattle.shr_audit_sweep.proofs.Marking.{swept_to}
 use Rattle.shr_audit_sweep.proofs.marks.mark_all.Given as goal

@@ -1,3 +1,4 @@
+-- SPDX-License-Identifier: GPL-2.0-only
 use Rattle.shr_audit_sweep.proofs.Common.{length, ap, refl, ◌∙◌, length-set, job_index}
 use Rattle.shr_audit_sweep.proofs.Marking.{in_marks, walks_all, walks_more, walks_twice, within_at}
 use Rattle.shr_audit_sweep.proofs.marks.mark_walks.Goals as goal

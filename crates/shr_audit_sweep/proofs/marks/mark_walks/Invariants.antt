@@ -1,3 +1,4 @@
+-- SPDX-License-Identifier: GPL-2.0-only
 use Rattle.shr_audit_sweep.proofs.Common.{◌≡◌, ◌*◌, ◌++◌, List, length, take, WalkRecord, AreMarked}
 use Rattle.shr_audit_sweep.proofs.marks.mark_walks.Given as goal
 

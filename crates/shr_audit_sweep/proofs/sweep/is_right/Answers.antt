@@ -1,3 +1,4 @@
+-- SPDX-License-Identifier: GPL-2.0-only
 use Rattle.shr_audit_sweep.proofs.Marking.{right_decided}
 use Rattle.shr_audit_sweep.proofs.sweep.is_right.Goals as goal
 

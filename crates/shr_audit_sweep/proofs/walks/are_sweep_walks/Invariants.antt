@@ -1,3 +1,4 @@
+-- SPDX-License-Identifier: GPL-2.0-only
 use Rattle.shr_audit_sweep.proofs.Common.{◌≡◌, ◌<◌, ℕ, Some, slice_get, WalkRecord, IsSweepWalk}
 use Rattle.shr_audit_sweep.proofs.walks.are_sweep_walks.Given as goal
 

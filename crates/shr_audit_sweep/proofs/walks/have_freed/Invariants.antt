@@ -1,3 +1,4 @@
+-- SPDX-License-Identifier: GPL-2.0-only
 use Rattle.shr_audit_sweep.proofs.Common.{◌≡◌, ◌+◌, sum_by, take, WalkRecord}
 use Rattle.shr_model.specs.Walks.{freed_told}
 use Rattle.shr_audit_sweep.proofs.walks.have_freed.Given as goal

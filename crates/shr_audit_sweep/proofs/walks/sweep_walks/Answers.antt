@@ -1,3 +1,4 @@
+-- SPDX-License-Identifier: GPL-2.0-only
 use Rattle.shr_audit_sweep.proofs.Common.{List, ap, subst, sym, ◌∙◌, WorkerPart, WalkRecord}
 use Rattle.shr_audit_passes.specs.Commands.{StandByCommand}
 use Rattle.shr_audit_sweep.proofs.Sweeping.{swept_are, swept_stand}

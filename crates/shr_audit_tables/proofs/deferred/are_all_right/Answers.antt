@@ -1,3 +1,4 @@
+-- SPDX-License-Identifier: GPL-2.0-only
 use Rattle.shr_audit_tables.proofs.Common.{length, slice_get_read, refl, WorkerPart, IsCarryRight, EachItem, each_more, each_all}
 use Rattle.shr_audit_tables.proofs.Steps.{along, failed}
 use Rattle.shr_audit_tables.proofs.deferred.are_all_right.Goals as goal

@@ -1,3 +1,4 @@
+-- SPDX-License-Identifier: GPL-2.0-only
 use Rattle.shr_audit_tables.proofs.Common.{◌≡◌, ◌<◌, ℕ, Some, slice_get, WorkerPart, IsCarryRight, EachItem}
 use Rattle.shr_audit_tables.proofs.deferred.are_all_right.Given as goal
 

@@ -1,3 +1,4 @@
+-- SPDX-License-Identifier: GPL-2.0-only
 use Rattle.shr_audit_tables.proofs.Common.{IsCarryRight, each_all}
 use Rattle.shr_audit_tables.proofs.deferred.are_carries_right.Goals as goal
 use Rattle.shr_audit_formed.proofs.Eachs.{each_copied}

@@ -1,3 +1,4 @@
+-- SPDX-License-Identifier: GPL-2.0-only
 use Rattle.shr_audit_tables.proofs.Words.{words_decided}
 use Rattle.shr_audit_tables.proofs.deferred.are_words_right.Goals as goal
 

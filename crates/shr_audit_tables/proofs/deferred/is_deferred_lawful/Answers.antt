@@ -1,3 +1,4 @@
+-- SPDX-License-Identifier: GPL-2.0-only
 use Rattle.shr_audit_tables.proofs.Common.{WorkerPart, IsCarryRight, EachItem}
 use Rattle.shr_audit_tables.proofs.Steps.{along, failed}
 use Rattle.shr_audit_tables.proofs.Carried.{deferred_of, carries_of_law, words_of_law}

@@ -1,3 +1,4 @@
+-- SPDX-License-Identifier: GPL-2.0-only
 use Rattle.std.proofs.Common.{refl}
 use Rattle.shr_audit_case.proofs.Gaining.{gains_as, gains_more}
 use Rattle.shr_audit_tables.proofs.deferred.note_part.Goals as goal

@@ -1,3 +1,4 @@
+-- SPDX-License-Identifier: GPL-2.0-only
 use Rattle.shr_audit_tables.proofs.Common.{take, sum_by, WorkerPart, gains_more, given_by_worker, taken_by}
 use Rattle.shr_audit_tables.proofs.Steps.{sum_item}
 use Rattle.shr_audit_tables.proofs.deferred.note_parts.Goals as goal

@@ -1,3 +1,4 @@
+-- SPDX-License-Identifier: GPL-2.0-only
 use Rattle.shr_audit_tables.proofs.Common.{drawn_move, map_end}
 use Rattle.shr_audit_tables.proofs.draws.add_drawn.Goals as goal
 use Rattle.shr_model.proofs.Lists.{map_step}

@@ -1,3 +1,4 @@
+-- SPDX-License-Identifier: GPL-2.0-only
 use Rattle.shr_audit_tables.proofs.Common.{◌≡◌, ◌++◌, map, take, drawn_move}
 use Rattle.shr_audit_tables.proofs.draws.add_drawn.Given as goal
 

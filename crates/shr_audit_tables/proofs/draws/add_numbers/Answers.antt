@@ -1,3 +1,4 @@
+-- SPDX-License-Identifier: GPL-2.0-only
 use Rattle.shr_audit_tables.proofs.Common.{◌++◌, ◌∷◌, [], ap, ◌∙◌, draw_key, wanted_move}
 use Rattle.shr_audit_tables.proofs.Rows.{range_step}
 use Rattle.shr_audit_tables.proofs.draws.add_numbers.Goals as goal

@@ -1,3 +1,4 @@
+-- SPDX-License-Identifier: GPL-2.0-only
 use Rattle.shr_audit_tables.proofs.Common.{◌≡◌, ◌++◌, map, range_with_len, draw_key, wanted_move}
 use Rattle.shr_audit_tables.proofs.draws.add_numbers.Given as goal
 

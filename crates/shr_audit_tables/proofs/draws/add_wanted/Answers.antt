@@ -1,3 +1,4 @@
+-- SPDX-License-Identifier: GPL-2.0-only
 use Rattle.shr_audit_tables.proofs.Rows.{wanted_step, wanted_end}
 use Rattle.shr_audit_tables.proofs.draws.add_wanted.Goals as goal
 

@@ -1,3 +1,4 @@
+-- SPDX-License-Identifier: GPL-2.0-only
 use Rattle.shr_audit_tables.proofs.Common.{◌≡◌, ◌++◌, take, wanted_from}
 use Rattle.shr_audit_tables.proofs.draws.add_wanted.Given as goal
 

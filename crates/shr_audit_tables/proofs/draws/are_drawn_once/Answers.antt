@@ -1,3 +1,4 @@
+-- SPDX-License-Identifier: GPL-2.0-only
 use Rattle.std.proofs.Common.{arith}
 use Rattle.shr_audit_tables.proofs.Steps.{failed}
 use Rattle.shr_audit_tables.proofs.DrawsLaw.{once_decided, few_drawn}

@@ -1,3 +1,4 @@
+-- SPDX-License-Identifier: GPL-2.0-only
 use Rattle.std.proofs.Common.{◌≡◌, ◌+◌, take, sum}
 use Rattle.shr_audit_tables.proofs.draws.are_few.Given as goal
 

@@ -1,3 +1,4 @@
+-- SPDX-License-Identifier: GPL-2.0-only
 use Rattle.shr_audit_tables.proofs.Common.{◌<◌, ◌^◌, ℕ, ◌++◌, List, ap, subst, sym, ◌∙◌, flat_map, EachItem, each_in, part_draws}
 use Rattle.shr_audit_tables.proofs.DrawnParts.{drawn_of}
 use Rattle.shr_audit_tables.proofs.draws.is_drawn.Goals as goal

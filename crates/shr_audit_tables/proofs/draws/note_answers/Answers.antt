@@ -1,3 +1,4 @@
+-- SPDX-License-Identifier: GPL-2.0-only
 use Rattle.shr_audit_tables.proofs.Common.{answer_draws, flat_all}
 use Rattle.shr_audit_tables.proofs.draws.note_answers.Goals as goal
 use Rattle.shr_model.proofs.Lists.{flat_more}

@@ -1,3 +1,4 @@
+-- SPDX-License-Identifier: GPL-2.0-only
 use Rattle.shr_audit_tables.proofs.Common.{◌≡◌, ◌++◌, take, flat_map, answer_draws}
 use Rattle.shr_audit_tables.proofs.draws.note_answers.Given as goal
 

@@ -1,3 +1,4 @@
+-- SPDX-License-Identifier: GPL-2.0-only
 use Rattle.shr_audit_tables.proofs.Common.{◌++◌, List, ap, ◌∙◌, flat_map, append_assoc, Answered, WalkRecord, answer_draws, walk_draws}
 use Rattle.shr_audit_tables.proofs.draws.note_part.Goals as goal
 

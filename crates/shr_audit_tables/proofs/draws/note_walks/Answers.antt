@@ -1,3 +1,4 @@
+-- SPDX-License-Identifier: GPL-2.0-only
 use Rattle.shr_audit_tables.proofs.Common.{◌++◌, List, ap, ◌∙◌, flat_map, Attempt, attempt_draws, walk_draws, flat_all}
 use Rattle.shr_audit_tables.proofs.draws.note_walks.Goals as goal
 use Rattle.shr_model.proofs.Lists.{flat_more}

@@ -1,3 +1,4 @@
+-- SPDX-License-Identifier: GPL-2.0-only
 use Rattle.shr_audit_tables.proofs.Common.{◌≡◌, ◌++◌, take, flat_map, walk_draws}
 use Rattle.shr_audit_tables.proofs.draws.note_walks.Given as goal
 

@@ -1,3 +1,4 @@
+-- SPDX-License-Identifier: GPL-2.0-only
 use Rattle.shr_audit_tables.proofs.LookupsCommon.{◌≡◌, ℕ, List, Some, slice_get, length, subst, sym, Decides, WorkerPart, Answered, IsFindAt, IsFindRight}
 use Rattle.shr_base.specs.declared.journals.PoolEntry.{PoolEntry}
 use Rattle.shr_audit_case.proofs.Eachs.{each_answer_of}

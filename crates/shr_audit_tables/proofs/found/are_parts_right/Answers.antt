@@ -1,3 +1,4 @@
+-- SPDX-License-Identifier: GPL-2.0-only
 use Rattle.shr_audit_tables.proofs.LookupsCommon.{Decides, ◌≡◌, ℕ, List, Some, slice_get, subst, sym, WorkerPart, Answered, Script, more_at, all_at, Report, IsFindAt}
 use Rattle.shr_audit_tables.proofs.found.are_parts_right.Goals as goal
 use Rattle.shr_audit_formed.proofs.Eachs.{one_fails}

@@ -1,3 +1,4 @@
+-- SPDX-License-Identifier: GPL-2.0-only
 use Rattle.shr_audit_tables.proofs.LookupsCommon.{◌≡◌, ◌<◌, ℕ, Some, slice_get, WorkerPart, Answered, IsFindAt}
 use Rattle.shr_audit_tables.proofs.found.are_parts_right.Given as goal
 

@@ -1,3 +1,4 @@
+-- SPDX-License-Identifier: GPL-2.0-only
 use Rattle.shr_base.specs.declared.scripts.Command.{Command}
 use Rattle.shr_laws.specs.Parts.{command_at, serial_of}
 use Rattle.shr_audit_tables.specs.Found.{IsFindRight}

@@ -1,3 +1,4 @@
+-- SPDX-License-Identifier: GPL-2.0-only
 use Rattle.std.proofs.Common.{arith}
 use Rattle.shr_audit_tables.proofs.LookupsDeciding.{found_decided}
 use Rattle.shr_audit_tables.proofs.found.is_found_right.Goals as goal

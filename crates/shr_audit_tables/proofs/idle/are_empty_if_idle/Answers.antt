@@ -1,3 +1,4 @@
+-- SPDX-License-Identifier: GPL-2.0-only
 use Rattle.shr_audit_tables.proofs.Common.{length, refl, slice_get_read, PlaceEnd, IsEmptyIfIdle, each_more, each_all}
 use Rattle.shr_audit_tables.proofs.Steps.{failed}
 use Rattle.shr_audit_tables.proofs.idle.are_empty_if_idle.Goals as goal

@@ -1,3 +1,4 @@
+-- SPDX-License-Identifier: GPL-2.0-only
 use Rattle.shr_audit_tables.proofs.Common.{◌≡◌, ◌<◌, ℕ, Some, slice_get, PlaceEnd, IsEmptyIfIdle}
 use Rattle.shr_audit_tables.proofs.idle.are_empty_if_idle.Given as goal
 

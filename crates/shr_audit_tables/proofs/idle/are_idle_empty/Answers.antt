@@ -1,3 +1,4 @@
+-- SPDX-License-Identifier: GPL-2.0-only
 use Rattle.shr_audit_tables.proofs.IdleLaw.{idle_decided}
 use Rattle.shr_audit_tables.proofs.idle.are_idle_empty.Goals as goal
 

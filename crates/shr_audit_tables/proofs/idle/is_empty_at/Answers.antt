@@ -1,3 +1,4 @@
+-- SPDX-License-Identifier: GPL-2.0-only
 use Rattle.shr_audit_tables.proofs.IdleLaw.{none_decided}
 use Rattle.shr_audit_tables.proofs.idle.is_empty_at.Goals as goal
 

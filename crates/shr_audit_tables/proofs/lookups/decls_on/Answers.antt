@@ -1,3 +1,4 @@
+-- SPDX-License-Identifier: GPL-2.0-only
 use Rattle.shr_audit_tables.proofs.Replay.{on_more}
 use Rattle.shr_audit_tables.proofs.lookups.decls_on.Goals as goal
 

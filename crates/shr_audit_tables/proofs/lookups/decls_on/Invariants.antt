@@ -1,3 +1,4 @@
+-- SPDX-License-Identifier: GPL-2.0-only
 use Rattle.shr_audit_tables.proofs.Common.{◌≡◌, take, on_from}
 use Rattle.shr_audit_tables.proofs.lookups.decls_on.Given as goal
 

@@ -1,3 +1,4 @@
+-- SPDX-License-Identifier: GPL-2.0-only
 use Rattle.shr_audit_tables.proofs.Common.{ap, subst, ◌∙◌, arith, IsPoolJournal, AreStatesOf, on_from, MatchOption-at_some}
 use Rattle.shr_audit_tables.proofs.Steps.{failed}
 use Rattle.shr_audit_tables.proofs.Replay.{opens_of, pool_of}

@@ -1,3 +1,4 @@
+-- SPDX-License-Identifier: GPL-2.0-only
 use Rattle.shr_audit_tables.proofs.LookupsCommon.{ap, length, Decides, IsDrawn, AreFoundRight, AreMetRight}
 use Rattle.shr_audit_tables.proofs.LookupsWhole.{all_lawful, none_past}
 use Rattle.shr_audit_tables.proofs.lookups_law.are_lookups_lawful.Goals as goal

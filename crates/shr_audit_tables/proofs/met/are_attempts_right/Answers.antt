@@ -1,3 +1,4 @@
+-- SPDX-License-Identifier: GPL-2.0-only
 use Rattle.shr_audit_tables.proofs.LookupsCommon.{subst, Decides, IsMetRight, each_more}
 use Rattle.shr_base.specs.Walks.{Attempt}
 use Rattle.shr_audit_tables.proofs.met.are_attempts_right.Goals as goal

@@ -1,3 +1,4 @@
+-- SPDX-License-Identifier: GPL-2.0-only
 use Rattle.shr_audit_tables.proofs.LookupsCommon.{◌≡◌, ℕ, List, Some, slice_get, subst, Decides, WorkerPart, EachItem, EachAttempt, IsMetRight}
 use Rattle.shr_audit_case.proofs.Eachs.{each_walk_of}
 use Rattle.shr_audit_tables.proofs.met.are_met_right.Goals as goal

@@ -1,3 +1,4 @@
+-- SPDX-License-Identifier: GPL-2.0-only
 use Rattle.shr_audit_tables.proofs.LookupsCommon.{◌≡◌, ℕ, List, Some, slice_get, length, refl, subst, sym, Decides, slice_get_read, WorkerPart, WalkRecord, EachItem, all_at, fails, more_at, Report, EachAttempt, IsMetRight}
 use Rattle.shr_audit_tables.proofs.met.are_parts_right.Goals as goal
 

@@ -1,3 +1,4 @@
+-- SPDX-License-Identifier: GPL-2.0-only
 use Rattle.shr_audit_tables.proofs.LookupsCommon.{length, refl, slice_get_read, WalkRecord, EachItem, fails, Report, EachAttempt, IsMetRight, each_all, each_more}
 use Rattle.shr_audit_tables.proofs.met.are_walks_right.Goals as goal
 

@@ -1,3 +1,4 @@
+-- SPDX-License-Identifier: GPL-2.0-only
 use Rattle.shr_audit_tables.proofs.Common.{◌≡◌, ◌%◌, ◌<◌, ◌≤◌, ℕ, Some, slice_get, slice_index, IdState}
 use Rattle.shr_audit_tables.proofs.registrations.are_last_reached.Given as goal
 

@@ -1,3 +1,4 @@
+-- SPDX-License-Identifier: GPL-2.0-only
 use Rattle.shr_audit_tables.proofs.Common.{◌+◌, List, subst, sym, IdState, AreBlankStates}
 use Rattle.shr_audit_tables.proofs.Replay.{first_more}
 use Rattle.shr_audit_tables.proofs.registrations.first_states.Goals as goal

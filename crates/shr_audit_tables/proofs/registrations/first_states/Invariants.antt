@@ -1,3 +1,4 @@
+-- SPDX-License-Identifier: GPL-2.0-only
 use Rattle.shr_audit_tables.specs.Registrations.{AreBlankStates}
 use Rattle.shr_audit_tables.proofs.registrations.first_states.Given as goal
 

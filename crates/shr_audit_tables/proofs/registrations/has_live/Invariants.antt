@@ -1,3 +1,4 @@
+-- SPDX-License-Identifier: GPL-2.0-only
 use Rattle.shr_audit_tables.proofs.Common.{◌≡◌, ◌<◌, ℕ, Some, slice_get, IdState, IsStateLiveAs}
 use Rattle.shr_audit_tables.proofs.registrations.has_live.Given as goal
 

@@ -1,3 +1,4 @@
+-- SPDX-License-Identifier: GPL-2.0-only
 use Rattle.shr_audit_tables.proofs.Common.{take, IsPoolJournal, AreStatesOf}
 use Rattle.shr_audit_tables.proofs.registrations.replay_pool.Given as goal
 

@@ -1,3 +1,4 @@
+-- SPDX-License-Identifier: GPL-2.0-only
 use Rattle.shr_audit_text.proofs.Common.{◌≡◌, map, list_of}
 use Rattle.shr_audit_text.proofs.finish.finish_lists.Given as goal
 

@@ -1,3 +1,4 @@
+-- SPDX-License-Identifier: GPL-2.0-only
 use Rattle.shr_audit_text.proofs.Common.{◌≡◌, map, drafted_plain}
 use Rattle.shr_audit_text.proofs.finish.finish_plain.Given as goal
 

@@ -1,3 +1,4 @@
+-- SPDX-License-Identifier: GPL-2.0-only
 use Rattle.shr_audit_text.proofs.Common.{◌≡◌, map, drafted_pool}
 use Rattle.shr_audit_text.proofs.finish.finish_units.Given as goal
 

@@ -1,3 +1,4 @@
+-- SPDX-License-Identifier: GPL-2.0-only
 use Rattle.shr_audit_text.proofs.Common.{◌≡◌, ℕ, Some, None, subst, arith, get, Updates}
 use Rattle.shr_audit_text.proofs.Linking.{more_linked}
 use Rattle.shr_audit_text.proofs.items.items_of.Goals as goal

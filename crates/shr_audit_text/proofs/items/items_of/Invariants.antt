@@ -1,3 +1,4 @@
+-- SPDX-License-Identifier: GPL-2.0-only
 use Rattle.shr_audit_text.proofs.Common.{◌≡◌, ◌++◌, length, slab_len, objects_from}
 use Rattle.shr_audit_text.proofs.items.items_of.Given as goal
 

@@ -1,3 +1,4 @@
+-- SPDX-License-Identifier: GPL-2.0-only
 use Rattle.shr_audit_text.proofs.Common.{◌≡◌, ◌∷◌, [], ◌++◌, List, map, ap, sym, ◌∙◌, Object, PlaceEnd, kept, with_more, list_of}
 use Rattle.shr_audit_text.proofs.Lasts.{changed_last, changed_none}
 use Rattle.shr_audit_text.proofs.lists.take_item.Goals as goal

@@ -1,3 +1,4 @@
+-- SPDX-License-Identifier: GPL-2.0-only
 use Rattle.shr_audit_text.proofs.Common.{◌≡◌, ◌∷◌, [], ◌++◌, sym, ap, ◌∙◌, with_last, found_answer}
 use Rattle.shr_audit_text.proofs.Lasts.{last_is, none_changed}
 use Rattle.shr_audit_text.proofs.parts.find_last.Goals as goal

@@ -1,3 +1,4 @@
+-- SPDX-License-Identifier: GPL-2.0-only
 use Rattle.shr_audit_text.proofs.Common.{◌≡◌, ◌++◌, replicate, drafted_parts, no_part}
 use Rattle.shr_audit_text.proofs.parts.pad.Given as goal
 

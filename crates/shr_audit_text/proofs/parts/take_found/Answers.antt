@@ -1,3 +1,4 @@
+-- SPDX-License-Identifier: GPL-2.0-only
 use Rattle.shr_audit_text.proofs.Common.{◌≡◌, ◌∷◌, [], ◌++◌, List, map, ap, sym, ◌∙◌, Answered, WorkerPart, kept, last_changed, drafted_part, found_answer}
 use Rattle.shr_audit_text.proofs.Lasts.{changed_last, changed_none}
 use Rattle.shr_audit_text.proofs.parts.take_found.Goals as goal

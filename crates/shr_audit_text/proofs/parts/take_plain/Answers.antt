@@ -1,3 +1,4 @@
+-- SPDX-License-Identifier: GPL-2.0-only
 use Rattle.shr_audit_text.proofs.Common.{◌≡◌, ◌∷◌, [], ◌++◌, List, map, ap, sym, ◌∙◌, PlainWalk, WorkerPart, kept, with_more, last_command, drafted_part, drafted_parts, plain_begun, length, ◌-◌}
 use Rattle.shr_audit_text.proofs.Lasts.{by_last}
 use Rattle.shr_audit_text.proofs.Lasts.{plains_more, plain_begun_is}

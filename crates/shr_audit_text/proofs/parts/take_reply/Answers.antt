@@ -1,3 +1,4 @@
+-- SPDX-License-Identifier: GPL-2.0-only
 use Rattle.shr_audit_text.proofs.Common.{◌≡◌, ◌∷◌, [], ◌++◌, List, map, ap, ◌∙◌, Answered, WorkerPart, kept, with_more, with_last, drafted_part, replied}
 use Rattle.shr_audit_text.proofs.Lasts.{changed_last}
 use Rattle.shr_audit_text.proofs.parts.take_reply.Goals as goal

@@ -1,3 +1,4 @@
+-- SPDX-License-Identifier: GPL-2.0-only
 use Rattle.shr_audit_text.proofs.Common.{◌≡◌, ◌∷◌, [], ◌++◌, List, map, ap, sym, ◌∙◌, WalkRecord, WorkerPart, kept, last_changed, drafted_part, seen_walk}
 use Rattle.shr_audit_text.proofs.Lasts.{changed_last, changed_none}
 use Rattle.shr_audit_text.proofs.parts.take_seen.Goals as goal

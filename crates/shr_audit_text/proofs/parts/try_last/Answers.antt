@@ -1,3 +1,4 @@
+-- SPDX-License-Identifier: GPL-2.0-only
 use Rattle.shr_audit_text.proofs.Common.{◌≡◌, ◌∷◌, [], ◌++◌, List, map, ap, sym, ◌∙◌, Attempt, kept, drafted_walk, tried_walk}
 use Rattle.shr_audit_text.proofs.Lasts.{changed_last, changed_none}
 use Rattle.shr_audit_text.proofs.parts.try_last.Goals as goal

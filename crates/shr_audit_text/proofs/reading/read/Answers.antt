@@ -1,3 +1,4 @@
+-- SPDX-License-Identifier: GPL-2.0-only
 use Rattle.shr_audit_text.proofs.Common.{◌≡◌, Some, Option, sym, ap, subst, ◌∙◌, pieces, Report, Said, read_line, IsReadOf, drafted_report, with_said, Reads, IsTightReport}
 use Rattle.shr_audit_text.proofs.Tight.{tight_drafted}
 use Rattle.shr_audit_text.proofs.Whole.{reads_of}

@@ -1,3 +1,4 @@
+-- SPDX-License-Identifier: GPL-2.0-only
 use Rattle.shr_audit_text.proofs.Common.{length, pieces, Report, drafted_report, nothing_read, Reads}
 use Rattle.shr_audit_text.proofs.reading.read.Given as goal
 

@@ -1,3 +1,4 @@
+-- SPDX-License-Identifier: GPL-2.0-only
 use Rattle.std.proofs.Common.{◌≡◌, ◌+◌, ◌*◌, get_or, sym, ◌∙◌, arith}
 use Rattle.shr_report.specs.ReadWords.{digit_of}
 use Rattle.shr_audit_text.proofs.Onto.{hex_all, hex_more, hex_none, too_great_hex}

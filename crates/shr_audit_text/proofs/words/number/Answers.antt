@@ -1,3 +1,4 @@
+-- SPDX-License-Identifier: GPL-2.0-only
 use Rattle.std.proofs.Common.{◌≡◌, ◌+◌, ◌*◌, ◌-◌, get_or, sym, ◌∙◌, arith}
 use Rattle.shr_audit_text.proofs.Onto.{onto_all, onto_more, onto_none, too_great}
 use Rattle.shr_audit_text.proofs.words.number.Goals as goal

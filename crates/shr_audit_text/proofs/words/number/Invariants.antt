@@ -1,3 +1,4 @@
+-- SPDX-License-Identifier: GPL-2.0-only
 use Rattle.std.proofs.Common.{◌≡◌, drop}
 use Rattle.shr_report.specs.ReadWords.{num}
 use Rattle.shr_audit_text.proofs.Onto.{onto}

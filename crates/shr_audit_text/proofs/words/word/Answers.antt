@@ -1,3 +1,4 @@
+-- SPDX-License-Identifier: GPL-2.0-only
 use Rattle.shr_model.specs.PieceParts.{left}
 use Rattle.shr_audit_text.proofs.Onto.{none_left}
 use Rattle.shr_audit_text.proofs.words.word.Goals as goal

@@ -1,3 +1,4 @@
+-- SPDX-License-Identifier: GPL-2.0-only
 use Rattle.shr_audit_walks.proofs.LaterCommon.{WorkerPart, each_more, IsPartFilled}
 use Rattle.shr_audit_walks.proofs.FilledLaw.{all_seen, part_fails}
 use Rattle.shr_audit_walks.proofs.Standing.{stands_here}

@@ -1,3 +1,4 @@
+-- SPDX-License-Identifier: GPL-2.0-only
 use Rattle.shr_audit_walks.proofs.LaterCommon.{◌≡◌, ◌<◌, ℕ, Some, slice_get, WorkerPart, IsPartFilled}
 use Rattle.shr_audit_walks.proofs.bits.are_bits_seen.Given as goal
 

@@ -1,3 +1,4 @@
+-- SPDX-License-Identifier: GPL-2.0-only
 use Rattle.shr_audit_walks.proofs.LaterCommon.{arith, ap, WalkRecord, length, refl, each_more, HasFilled, found_at}
 use Rattle.shr_audit_walks.proofs.Filling.{none_yet}
 use Rattle.shr_audit_walks.proofs.FilledLaw.{filled_decided, walk_fails, walks_all}

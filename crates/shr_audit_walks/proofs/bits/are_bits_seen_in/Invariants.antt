@@ -1,3 +1,4 @@
+-- SPDX-License-Identifier: GPL-2.0-only
 use Rattle.shr_audit_walks.proofs.LaterCommon.{◌≡◌, ◌<◌, ◌≤◌, ℕ, Some, slice_get, WalkRecord, AreFilled, HasFilled}
 use Rattle.shr_audit_walks.proofs.bits.are_bits_seen_in.Given as goal
 

@@ -1,3 +1,4 @@
+-- SPDX-License-Identifier: GPL-2.0-only
 use Rattle.shr_audit_walks.proofs.LaterCommon.{arith, subst, sym, Answered, NotesReply}
 use Rattle.shr_audit_walks.proofs.Citing.{one_more}
 use Rattle.shr_audit_walks.proofs.cited.note_answers.Goals as goal

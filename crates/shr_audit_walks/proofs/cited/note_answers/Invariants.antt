@@ -1,3 +1,4 @@
+-- SPDX-License-Identifier: GPL-2.0-only
 use Rattle.shr_audit_walks.specs.Cited.{AreHighestCited}
 use Rattle.shr_audit_walks.proofs.cited.note_answers.Given as goal
 

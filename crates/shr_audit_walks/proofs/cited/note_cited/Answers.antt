@@ -1,3 +1,4 @@
+-- SPDX-License-Identifier: GPL-2.0-only
 use Rattle.shr_audit_walks.proofs.Citing.{fits_so, kept_so, put_so}
 use Rattle.shr_audit_walks.proofs.cited.note_cited.Goals as goal
 

@@ -1,3 +1,4 @@
+-- SPDX-License-Identifier: GPL-2.0-only
 use Rattle.shr_audit_walks.proofs.LaterCommon.{subst, ap, List, flat_map, nat_eq, list_any, WorkerPart, WalkRecord, clearings_of, Clears}
 use Rattle.shr_audit_walks.proofs.Clearing.{all_cleared, clears_all, clears_more, clears_none}
 use Rattle.shr_audit_walks.proofs.cleared.cleared_in.Goals as goal

@@ -1,3 +1,4 @@
+-- SPDX-License-Identifier: GPL-2.0-only
 use Rattle.shr_audit_walks.proofs.LaterCommon.{flat_map, take, WorkerPart, clearings_of, Clears}
 use Rattle.shr_audit_walks.proofs.cleared.cleared_in.Given as goal
 

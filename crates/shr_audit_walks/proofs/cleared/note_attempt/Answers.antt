@@ -1,3 +1,4 @@
+-- SPDX-License-Identifier: GPL-2.0-only
 use Rattle.shr_audit_walks.proofs.LaterCommon.{ℕ, true, cond, ◌∙◌, ◌∷◌, [], sym, ap, subst, nat_eq, contains, Place, Attempt, place_in, Clears}
 use Rattle.shr_model.specs.Attempts.{is_clearing}
 use Rattle.shr_audit_walks.proofs.Citing.{fits_so}

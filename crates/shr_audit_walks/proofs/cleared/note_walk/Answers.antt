@@ -1,3 +1,4 @@
+-- SPDX-License-Identifier: GPL-2.0-only
 use Rattle.shr_audit_walks.proofs.LaterCommon.{subst, ap, ◌∙◌, List, flat_map, Place, Attempt, Clears, cleared_by}
 use Rattle.shr_audit_walks.proofs.Clearing.{by_attempts, clears_all, clears_more}
 use Rattle.shr_audit_walks.proofs.cleared.note_walk.Goals as goal

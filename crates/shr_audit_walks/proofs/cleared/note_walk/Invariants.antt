@@ -1,3 +1,4 @@
+-- SPDX-License-Identifier: GPL-2.0-only
 use Rattle.shr_audit_walks.proofs.LaterCommon.{flat_map, take, Clears, cleared_by}
 use Rattle.shr_audit_walks.proofs.cleared.note_walk.Given as goal
 

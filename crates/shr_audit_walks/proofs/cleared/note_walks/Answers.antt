@@ -1,3 +1,4 @@
+-- SPDX-License-Identifier: GPL-2.0-only
 use Rattle.shr_audit_walks.proofs.LaterCommon.{subst, WalkRecord, clearings_of, Clears}
 use Rattle.shr_audit_walks.proofs.Clearing.{clears_all, clears_more}
 use Rattle.shr_audit_walks.proofs.cleared.note_walks.Goals as goal

@@ -1,3 +1,4 @@
+-- SPDX-License-Identifier: GPL-2.0-only
 use Rattle.shr_audit_walks.proofs.LaterCommon.{◌∙◌, ap, nat_eq, contains}
 use Rattle.shr_audit_walks.proofs.Citing.{fits_so}
 use Rattle.shr_audit_walks.proofs.cleared.was_cleared.Goals as goal

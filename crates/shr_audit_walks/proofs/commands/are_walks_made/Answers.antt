@@ -1,3 +1,4 @@
+-- SPDX-License-Identifier: GPL-2.0-only
 use Rattle.shr_audit_walks.proofs.RoundsCommon.{ℕ, List, subst, Decides, WorkerPart, Command, more_at, commands_of, IsPartMade, stands_here}
 use Rattle.shr_audit_walks.proofs.Commanding.{all_made, part_fails}
 use Rattle.shr_audit_walks.proofs.commands.are_walks_made.Goals as goal

@@ -1,3 +1,4 @@
+-- SPDX-License-Identifier: GPL-2.0-only
 use Rattle.shr_audit_walks.proofs.RoundsCommon.{◌≡◌, ◌<◌, ℕ, Some, slice_get, WorkerPart, commands_of, IsPartMade}
 use Rattle.shr_audit_walks.proofs.commands.are_walks_made.Given as goal
 

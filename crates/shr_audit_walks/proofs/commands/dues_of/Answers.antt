@@ -1,3 +1,4 @@
+-- SPDX-License-Identifier: GPL-2.0-only
 use Rattle.shr_audit_walks.proofs.RoundsCommon.{◌≡◌, ◌<◌, ℕ, List, Vec, length, refl, sym, ap, subst, ◌∙◌, Global, AllByRecursion, UseStep, parents_of, Refusal, AreRefusals}
 use Rattle.shr_audit_walks.proofs.Refusing.{there}
 use Rattle.shr_audit_walks.proofs.commands.dues_of.Goals as goal

@@ -1,3 +1,4 @@
+-- SPDX-License-Identifier: GPL-2.0-only
 use Rattle.shr_audit_walks.proofs.RoundsCommon.{◌<◌, List, length, sym, ap, subst, ◌∙◌, ◌==◌, AllByRecursion, Refusal, refusals_with, refusal_key}
 use Rattle.shr_audit_walks.proofs.Refusing.{some_there}
 use Rattle.shr_audit_walks.proofs.commands.is_answer_made.Goals as goal

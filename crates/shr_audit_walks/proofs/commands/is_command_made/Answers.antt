@@ -1,3 +1,4 @@
+-- SPDX-License-Identifier: GPL-2.0-only
 use Rattle.shr_audit_walks.proofs.RoundsCommon.{ℕ, Bool, List, sym, subst, Decides, Command, preorder_of, IsCommandMade, is_whole, refused_groups, IsMadeAsDue, jobs_made, jobs_over, IfOk}
 use Rattle.shr_audit_walks.specs.declared.round_rows.Control.{Control}
 use Rattle.shr_audit_walks.proofs.commands.is_command_made.Goals as goal

@@ -1,3 +1,4 @@
+-- SPDX-License-Identifier: GPL-2.0-only
 use Rattle.shr_audit_walks.proofs.RoundsCommon.{◌≡◌, ℕ, List, Some, slice_get, get_or, refl, sym, ap, subst, ◌∙◌, arith, Decides, slice_get_within, Answered, Command, WalkRecord, clash, serial_of, Dues, IsAnswerMade, here_at}
 use Rattle.shr_audit_walks.proofs.Commanding.{both_more}
 use Rattle.shr_audit_walks.proofs.commands.is_part_made.Goals as goal

@@ -1,3 +1,4 @@
+-- SPDX-License-Identifier: GPL-2.0-only
 use Rattle.shr_audit_walks.proofs.RoundsCommon.{◌≡◌, ◌<◌, ℕ, Some, slice_get, Answered, Command, serial_of, IsAnswerMade}
 use Rattle.shr_audit_walks.proofs.commands.is_part_made.Given as goal
 

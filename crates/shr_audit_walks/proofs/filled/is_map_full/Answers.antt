@@ -1,3 +1,4 @@
+-- SPDX-License-Identifier: GPL-2.0-only
 use Rattle.shr_audit_walks.proofs.LaterCommon.{arith, ap, ◌∙◌, WalkRecord, word_by_key}
 use Rattle.shr_audit_walks.proofs.Filling.{map_decided}
 use Rattle.shr_audit_walks.proofs.filled.is_map_full.Goals as goal

@@ -1,3 +1,4 @@
+-- SPDX-License-Identifier: GPL-2.0-only
 use Rattle.shr_audit_walks.proofs.LaterCommon.{subst, sym, NotesFilled}
 use Rattle.shr_audit_walks.proofs.Filling.{none_set}
 use Rattle.shr_audit_walks.proofs.filled.note_filled.Goals as goal

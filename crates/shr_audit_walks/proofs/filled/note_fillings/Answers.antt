@@ -1,3 +1,4 @@
+-- SPDX-License-Identifier: GPL-2.0-only
 use Rattle.shr_audit_walks.proofs.LaterCommon.{arith, subst, sym, Option, Place, Answered, NotesFilled, filled_by}
 use Rattle.shr_audit_walks.proofs.Filling.{one_more}
 use Rattle.shr_audit_walks.proofs.filled.note_fillings.Goals as goal

@@ -1,3 +1,4 @@
+-- SPDX-License-Identifier: GPL-2.0-only
 use Rattle.shr_audit_walks.specs.Filled.{AreFilled}
 use Rattle.shr_audit_walks.proofs.filled.note_fillings.Given as goal
 

@@ -1,3 +1,4 @@
+-- SPDX-License-Identifier: GPL-2.0-only
 use Rattle.shr_audit_walks.proofs.LaterCommon.{ℕ, ◌*◌, ◌%◌, ◌^◌, ap, arith, bit_or, bit_of}
 use Rattle.shr_audit_walks.proofs.Citing.{fits_so}
 use Rattle.shr_audit_walks.proofs.Filling.{bit_set}

@@ -1,3 +1,4 @@
+-- SPDX-License-Identifier: GPL-2.0-only
 use Rattle.shr_audit_walks.proofs.LaterCommon.{arith, ap, WalkRecord, each_more, IsWalkLater, length, refl, found_at}
 use Rattle.shr_audit_walks.proofs.Citing.{later_decided, none_yet}
 use Rattle.shr_audit_walks.proofs.LaterLaw.{walk_fails, walks_all}

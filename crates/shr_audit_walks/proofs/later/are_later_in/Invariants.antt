@@ -1,3 +1,4 @@
+-- SPDX-License-Identifier: GPL-2.0-only
 use Rattle.shr_audit_walks.proofs.LaterCommon.{◌≡◌, ◌<◌, ◌≤◌, ℕ, Some, slice_get, WalkRecord, AreHighestCited, IsWalkLater}
 use Rattle.shr_audit_walks.proofs.later.are_later_in.Given as goal
 

@@ -1,3 +1,4 @@
+-- SPDX-License-Identifier: GPL-2.0-only
 use Rattle.shr_audit_walks.proofs.LaterCommon.{each_more, IsPartLater}
 use Rattle.shr_audit_walks.proofs.LaterLaw.{all_later, part_fails}
 use Rattle.shr_audit_walks.proofs.Standing.{stands_here}

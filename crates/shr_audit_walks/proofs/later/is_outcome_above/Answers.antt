@@ -1,3 +1,4 @@
+-- SPDX-License-Identifier: GPL-2.0-only
 use Rattle.shr_audit_walks.proofs.LaterCommon.{sym, subst, Decides, IsOutcomeAbove, IsAboveHighest}
 use Rattle.shr_base.specs.declared.walks.Outcome.{Outcome}
 use Rattle.shr_audit_walks.proofs.Citing.{both_above, one_above}

@@ -1,3 +1,4 @@
+-- SPDX-License-Identifier: GPL-2.0-only
 use Rattle.shr_audit_walks.proofs.LaterCommon.{◌≡◌, ap, ◌∙◌, subst, get_or, Decides, Attempt, place_in, IsOutcomeAbove}
 use Rattle.shr_base.specs.declared.walks.Outcome.{Outcome}
 use Rattle.shr_audit_walks.proofs.Citing.{attempt_fails, attempt_more, attempts_all}

@@ -1,3 +1,4 @@
+-- SPDX-License-Identifier: GPL-2.0-only
 use Rattle.shr_audit_walks.proofs.LaterCommon.{◌≡◌, ◌<◌, ℕ, Some, slice_get, Attempt, place_in, IsOutcomeAbove}
 use Rattle.shr_audit_walks.proofs.later.is_walk_above.Given as goal
 

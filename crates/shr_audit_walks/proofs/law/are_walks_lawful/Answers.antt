@@ -1,3 +1,4 @@
+-- SPDX-License-Identifier: GPL-2.0-only
 use Rattle.std.specs.Bool.{Decides}
 use Rattle.shr_audit_walks.proofs.Whole.{Later, Lawful, Made, NoOthers, Rising, Told, all_lawful}
 use Rattle.shr_audit_walks.proofs.law.are_walks_lawful.Goals as goal

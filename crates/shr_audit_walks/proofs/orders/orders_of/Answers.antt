@@ -1,3 +1,4 @@
+-- SPDX-License-Identifier: GPL-2.0-only
 use Rattle.shr_audit_walks.proofs.RoundsCommon.{◌≡◌, ◌+◌, ◌-◌, ℕ, List, [], ◌∷◌, ◌++◌, length, sym, ap, subst, ◌∙◌, arith, Global, Vec, AreOrdersFrom}
 use Rattle.shr_audit_walks.proofs.Ordering.{order_more, whole_order}
 use Rattle.shr_audit_walks.proofs.orders.orders_of.Goals as goal

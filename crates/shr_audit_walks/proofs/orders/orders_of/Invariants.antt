@@ -1,3 +1,4 @@
+-- SPDX-License-Identifier: GPL-2.0-only
 use Rattle.shr_audit_walks.proofs.RoundsCommon.{◌-◌, length, AreOrdersFrom}
 use Rattle.shr_audit_walks.proofs.orders.orders_of.Given as goal
 

@@ -1,3 +1,4 @@
+-- SPDX-License-Identifier: GPL-2.0-only
 use Rattle.shr_audit_walks.proofs.RoundsCommon.{◌+◌, ℕ, List, ◌++◌, Vec, sym, ap, ◌∙◌, arith, Global, append-nil, append_assoc, preorder_of}
 use Rattle.shr_audit_walks.proofs.Ordering.{below, no_child, none_before, one_child, is_none, is_one, order_at}
 use Rattle.shr_audit_walks.proofs.orders.push_subtrees.Goals as goal

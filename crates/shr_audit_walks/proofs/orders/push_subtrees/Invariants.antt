@@ -1,3 +1,4 @@
+-- SPDX-License-Identifier: GPL-2.0-only
 use Rattle.std.proofs.Common.{◌≡◌, ◌++◌}
 use Rattle.shr_audit_walks.proofs.Ordering.{below}
 use Rattle.shr_audit_walks.proofs.orders.push_subtrees.Given as goal

@@ -1,3 +1,4 @@
+-- SPDX-License-Identifier: GPL-2.0-only
 use Rattle.shr_audit_walks.proofs.OthersLaw.{others_all, others_fail, others_more}
 use Rattle.shr_audit_walks.proofs.others.are_no_others.Goals as goal
 

@@ -1,3 +1,4 @@
+-- SPDX-License-Identifier: GPL-2.0-only
 use Rattle.shr_audit_walks.proofs.ScansCommon.{◌≡◌, ◌<◌, ℕ, Some, slice_get, PlaceEnd}
 use Rattle.shr_audit_walks.proofs.OthersLaw.{IsListOfPasses}
 use Rattle.shr_audit_walks.proofs.others.are_no_others.Given as goal

@@ -1,3 +1,4 @@
+-- SPDX-License-Identifier: GPL-2.0-only
 use Rattle.shr_audit_formed.proofs.Eachs.{each_all, each_more}
 use Rattle.shr_audit_walks.specs.Others.{IsEntryOfPass}
 use Rattle.shr_audit_walks.proofs.others.are_of_passes.Goals as goal

@@ -1,3 +1,4 @@
+-- SPDX-License-Identifier: GPL-2.0-only
 use Rattle.shr_audit_walks.proofs.ScansCommon.{◌≡◌, ◌<◌, ℕ, Some, slice_get, Entry, Report, IsEntryOfPass, ArePassesOf}
 use Rattle.shr_audit_walks.proofs.others.are_of_passes.Given as goal
 

@@ -1,3 +1,4 @@
+-- SPDX-License-Identifier: GPL-2.0-only
 use Rattle.shr_audit_walks.proofs.ScansCommon.{◌≡◌, get_or, ap, ◌∙◌, get_or_from_slice_get, PlaceEnd}
 use Rattle.shr_audit_walks.proofs.OthersLaw.{list_decided}
 use Rattle.shr_audit_walks.proofs.others.is_list_of_passes.Goals as goal

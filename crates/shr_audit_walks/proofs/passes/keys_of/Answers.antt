@@ -1,3 +1,4 @@
+-- SPDX-License-Identifier: GPL-2.0-only
 use Rattle.shr_audit_walks.proofs.ScansCommon.{ℕ, [], List, ◌++◌, ap, sym, ◌∙◌, flat_map, enumerate_from, WorkerPart, WalkRecord, keys_of_part}
 use Rattle.shr_audit_walks.proofs.Added.{numbered_all, numbered_more}
 use Rattle.shr_audit_walks.proofs.passes.keys_of.Goals as goal

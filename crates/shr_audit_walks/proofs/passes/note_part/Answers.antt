@@ -1,3 +1,4 @@
+-- SPDX-License-Identifier: GPL-2.0-only
 use Rattle.shr_audit_walks.proofs.ScansCommon.{ℕ, WalkRecord, keys_in}
 use Rattle.shr_audit_walks.proofs.Added.{numbered_all, numbered_more}
 use Rattle.shr_audit_walks.proofs.passes.note_part.Goals as goal

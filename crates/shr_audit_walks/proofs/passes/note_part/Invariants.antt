@@ -1,3 +1,4 @@
+-- SPDX-License-Identifier: GPL-2.0-only
 use Rattle.shr_audit_walks.proofs.ScansCommon.{◌≡◌, ◌++◌, ℕ, take, flat_map, enumerate_from, WalkRecord, keys_in}
 use Rattle.shr_audit_walks.proofs.passes.note_part.Given as goal
 

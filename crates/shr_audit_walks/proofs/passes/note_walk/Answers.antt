@@ -1,3 +1,4 @@
+-- SPDX-License-Identifier: GPL-2.0-only
 use Rattle.shr_audit_walks.proofs.ScansCommon.{List, ◌++◌, ap, ◌∙◌, flat_map, Attempt, keys_at, flat_all}
 use Rattle.shr_audit_walks.proofs.passes.note_walk.Goals as goal
 use Rattle.shr_model.proofs.Lists.{flat_more}

@@ -1,3 +1,4 @@
+-- SPDX-License-Identifier: GPL-2.0-only
 use Rattle.shr_audit_walks.proofs.ScansCommon.{◌≡◌, ◌++◌, take, flat_map, keys_at}
 use Rattle.shr_audit_walks.proofs.passes.note_walk.Given as goal
 

@@ -1,3 +1,4 @@
+-- SPDX-License-Identifier: GPL-2.0-only
 use Rattle.shr_audit_walks.proofs.Climbing.{above_fails, above_more}
 use Rattle.shr_audit_walks.proofs.puts.are_above.Goals as goal
 

@@ -1,3 +1,4 @@
+-- SPDX-License-Identifier: GPL-2.0-only
 use Rattle.shr_audit_walks.proofs.RoundsCommon.{ℕ, take, AllByRecursion, IsAtOrAbove}
 use Rattle.shr_audit_walks.proofs.puts.are_above.Given as goal
 

@@ -1,3 +1,4 @@
+-- SPDX-License-Identifier: GPL-2.0-only
 use Rattle.shr_audit_walks.proofs.RoundsCommon.{◌≡◌, take, refused_groups}
 use Rattle.shr_audit_walks.proofs.puts.groups_of.Given as goal
 

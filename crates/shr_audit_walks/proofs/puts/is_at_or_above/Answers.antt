@@ -1,3 +1,4 @@
+-- SPDX-License-Identifier: GPL-2.0-only
 use Rattle.std.proofs.Common.{refl, arith}
 use Rattle.shr_audit_walks.proofs.Climbing.{at_top, climbed, found, lower}
 use Rattle.shr_audit_walks.proofs.puts.is_at_or_above.Goals as goal

@@ -1,3 +1,4 @@
+-- SPDX-License-Identifier: GPL-2.0-only
 use Rattle.shr_audit_walks.proofs.RoundsCommon.{◌<◌, ℕ, Bool, List, length, refl, subst, Decides, AllByRecursion, IsAtOrAbove, is_whole, over_of, refused_groups, FitsRounds, jobs_made}
 use Rattle.shr_audit_walks.proofs.Due.{above_put, due_found, due_so, groups_there, none_put, put_decided}
 use Rattle.shr_audit_walks.proofs.puts.is_put_made.Goals as goal

@@ -1,3 +1,4 @@
+-- SPDX-License-Identifier: GPL-2.0-only
 use Rattle.shr_audit_walks.proofs.RoundsCommon.{◌≡◌, ◌<◌, ℕ, Option, subst, arith, eq-eqb, nat_tests, AreDue}
 use Rattle.shr_audit_walks.proofs.Due.{not_all, not_named, too_many}
 use Rattle.shr_audit_walks.proofs.puts.leave_rounds.Goals as goal

@@ -1,3 +1,4 @@
+-- SPDX-License-Identifier: GPL-2.0-only
 use Rattle.shr_audit_walks.proofs.Refusing.{limit_found, no_limit}
 use Rattle.shr_audit_walks.proofs.refusals.limit_of.Goals as goal
 

@@ -1,3 +1,4 @@
+-- SPDX-License-Identifier: GPL-2.0-only
 use Rattle.shr_audit_walks.proofs.RoundsCommon.{ℕ, ap, ◌∙◌, arith, Refusal, refusals_with}
 use Rattle.shr_audit_passes.proofs.Ranged.{range_filter, none_filter}
 use Rattle.shr_audit_walks.proofs.refusals.refusals_by.Goals as goal

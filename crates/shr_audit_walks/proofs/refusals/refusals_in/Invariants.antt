@@ -1,3 +1,4 @@
+-- SPDX-License-Identifier: GPL-2.0-only
 use Rattle.shr_audit_walks.proofs.RoundsCommon.{◌≡◌, take, refusals_in}
 use Rattle.shr_audit_walks.proofs.refusals.refusals_in.Given as goal
 

@@ -1,3 +1,4 @@
+-- SPDX-License-Identifier: GPL-2.0-only
 use Rattle.shr_audit_walks.proofs.RoundsCommon.{rules, Refusal, answers_always, IsNonDecreasingBy-from_sort}
 use Rattle.shr_audit_walks.proofs.refusals.refusals_of.Goals as goal
 

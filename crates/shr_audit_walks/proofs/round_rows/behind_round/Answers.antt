@@ -1,3 +1,4 @@
+-- SPDX-License-Identifier: GPL-2.0-only
 use Rattle.shr_audit_walks.proofs.RoundsCommon.{ℕ, jobs_made, jobs_over, round_control}
 use Rattle.shr_audit_walks.proofs.Begun.{behind_none, nodes_all, nodes_fail, nodes_more}
 use Rattle.shr_audit_walks.proofs.round_rows.behind_round.Goals as goal

@@ -1,3 +1,4 @@
+-- SPDX-License-Identifier: GPL-2.0-only
 use Rattle.shr_audit_walks.proofs.RoundsCommon.{ℕ, flat_map, take, range_with_len, IsBehind, jobs_made, jobs_over, round_control}
 use Rattle.shr_audit_walks.proofs.round_rows.behind_round.Given as goal
 

@@ -1,3 +1,4 @@
+-- SPDX-License-Identifier: GPL-2.0-only
 use Rattle.shr_audit_walks.specs.RoundRows.{job_with, jobs_made}
 use Rattle.shr_audit_walks.proofs.Begun.{behind_none, groups_all, groups_fail, groups_more}
 use Rattle.shr_audit_walks.proofs.round_rows.behind_row.Goals as goal

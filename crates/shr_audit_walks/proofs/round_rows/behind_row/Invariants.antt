@@ -1,3 +1,4 @@
+-- SPDX-License-Identifier: GPL-2.0-only
 use Rattle.shr_audit_walks.proofs.RoundsCommon.{ℕ, [], ◌∷◌, flat_map, take, IsBehind, job_with, jobs_made}
 use Rattle.shr_audit_walks.proofs.round_rows.behind_row.Given as goal
 

@@ -1,3 +1,4 @@
+-- SPDX-License-Identifier: GPL-2.0-only
 use Rattle.shr_audit_walks.proofs.RoundsCommon.{sym, ap, ◌∙◌, length-map, job_of, jobs_made, jobs_over, ◌==◌, ℕ}
 use Rattle.shr_audit_walks.proofs.Begun.{made_behind, not_made}
 use Rattle.shr_audit_walks.proofs.round_rows.is_row_made.Goals as goal

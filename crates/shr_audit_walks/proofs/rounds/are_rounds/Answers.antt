@@ -1,3 +1,4 @@
+-- SPDX-License-Identifier: GPL-2.0-only
 use Rattle.shr_audit_walks.proofs.RoundsCommon.{◌≡◌, ℕ, Bool, true, false, refl, Vec, length, ap, subst, ◌∙◌, arith, Global, ◌==◌, ◌||◌, not, Decides, FitsRounds, WalkRecord, jobs_made, vec_len}
 use Rattle.shr_audit_walks.proofs.Fitting.{all_rounds, group_fails, group_there, nothing_left, round_fails, round_more, some_left, still_there}
 use Rattle.shr_audit_walks.proofs.rounds.are_rounds.Goals as goal

@@ -1,3 +1,4 @@
+-- SPDX-License-Identifier: GPL-2.0-only
 use Rattle.shr_audit_walks.proofs.RoundsCommon.{◌<◌, ℕ, length, ◌↔◌, AllByRecursion, FitsRounds, jobs_made}
 use Rattle.shr_audit_walks.proofs.rounds.are_rounds.Given as goal
 

@@ -1,3 +1,4 @@
+-- SPDX-License-Identifier: GPL-2.0-only
 use Rattle.shr_audit_walks.proofs.RoundsCommon.{◌≡◌, ℕ, List, ap, length, subst, arith, times_over}
 use Rattle.shr_audit_walks.proofs.Alike.{none_there}
 use Rattle.shr_audit_walks.proofs.rounds.take_out.Goals as goal

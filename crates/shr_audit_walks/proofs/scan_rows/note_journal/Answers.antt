@@ -1,3 +1,4 @@
+-- SPDX-License-Identifier: GPL-2.0-only
 use Rattle.shr_audit_walks.proofs.Noted.{rows_all, rows_more}
 use Rattle.shr_audit_walks.proofs.scan_rows.note_journal.Goals as goal
 

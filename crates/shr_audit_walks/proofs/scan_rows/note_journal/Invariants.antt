@@ -1,3 +1,4 @@
+-- SPDX-License-Identifier: GPL-2.0-only
 use Rattle.shr_audit_walks.proofs.ScansCommon.{◌≡◌, ◌++◌, take, filter_map, enumerate_from}
 use Rattle.shr_audit_walks.proofs.Noted.{row_at}
 use Rattle.shr_audit_walks.proofs.scan_rows.note_journal.Given as goal

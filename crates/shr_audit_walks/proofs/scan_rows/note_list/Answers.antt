@@ -1,3 +1,4 @@
+-- SPDX-License-Identifier: GPL-2.0-only
 use Rattle.shr_audit_walks.proofs.ScansCommon.{◌≡◌, List, ◌++◌, ap, ◌∙◌, get_or_from_slice_get, PlaceEnd, Entry, rows_of}
 use Rattle.shr_audit_walks.proofs.scan_rows.note_list.Goals as goal
 

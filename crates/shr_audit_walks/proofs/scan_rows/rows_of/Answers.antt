@@ -1,3 +1,4 @@
+-- SPDX-License-Identifier: GPL-2.0-only
 use Rattle.shr_audit_walks.proofs.ScansCommon.{List, sym, subst, AllByRecursion, PlaceEnd, IsListNumbered, AreRowsOf}
 use Rattle.shr_audit_walks.proofs.Noted.{noted_all, noted_more, noted_none}
 use Rattle.shr_audit_walks.proofs.scan_rows.rows_of.Goals as goal

@@ -1,3 +1,4 @@
+-- SPDX-License-Identifier: GPL-2.0-only
 use Rattle.shr_audit_walks.proofs.ScansCommon.{take, AreRowsOf}
 use Rattle.shr_audit_walks.proofs.scan_rows.rows_of.Given as goal
 

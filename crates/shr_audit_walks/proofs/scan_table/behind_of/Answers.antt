@@ -1,3 +1,4 @@
+-- SPDX-License-Identifier: GPL-2.0-only
 use Rattle.shr_audit_walks.proofs.ScansCommon.{◌≡◌, true, false, subst, arith, rules, nat_tests, IsPartitionPoint-from_clause, get_or_from_slice_get, slice_get_within, ScanSeen, row_key, nat_le, IsPartitionedBy-leb}
 use Rattle.shr_audit_walks.proofs.scan_table.behind_of.Goals as goal
 

@@ -1,3 +1,4 @@
+-- SPDX-License-Identifier: GPL-2.0-only
 use Rattle.shr_audit_walks.proofs.ScansCommon.{◌≡◌, true, false, subst, arith, rules, nat_lt, nat_tests, IsPartitionPoint-from_clause, get_or_from_slice_get, slice_get_within, ScanSeen, row_key, IsPartitionedBy-ltb}
 use Rattle.shr_audit_walks.proofs.scan_table.first_of.Goals as goal
 

@@ -1,3 +1,4 @@
+-- SPDX-License-Identifier: GPL-2.0-only
 use Rattle.shr_audit_walks.proofs.ScansCommon.{arith, row_key}
 use Rattle.shr_audit_passes.proofs.Ranged.{range_filter, none_filter}
 use Rattle.shr_audit_walks.proofs.scan_table.range_of.Goals as goal

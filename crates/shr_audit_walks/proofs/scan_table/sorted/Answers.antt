@@ -1,3 +1,4 @@
+-- SPDX-License-Identifier: GPL-2.0-only
 use Rattle.shr_audit_walks.proofs.ScansCommon.{rules, IsNonDecreasingBy-from_sort, row_key, answers_always}
 use Rattle.shr_audit_walks.proofs.Ordered.{same_order}
 use Rattle.shr_audit_walks.proofs.scan_table.sorted.Goals as goal

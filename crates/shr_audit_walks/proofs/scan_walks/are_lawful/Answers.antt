@@ -1,3 +1,4 @@
+-- SPDX-License-Identifier: GPL-2.0-only
 use Rattle.shr_audit_walks.proofs.ScansCommon.{Decides, all_at, IsLawfulWalk, more_at}
 use Rattle.shr_audit_walks.proofs.scan_walks.are_lawful.Goals as goal
 use Rattle.shr_audit_formed.proofs.Eachs.{one_fails}

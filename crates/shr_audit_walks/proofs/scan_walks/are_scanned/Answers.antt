@@ -1,3 +1,4 @@
+-- SPDX-License-Identifier: GPL-2.0-only
 use Rattle.shr_audit_walks.proofs.ScansCommon.{subst, Decides, Attempt}
 use Rattle.shr_audit_walks.specs.ScanWalks.{IsScannedAt}
 use Rattle.shr_audit_walks.proofs.scan_walks.are_scanned.Goals as goal

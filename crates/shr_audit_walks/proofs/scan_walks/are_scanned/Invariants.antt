@@ -1,3 +1,4 @@
+-- SPDX-License-Identifier: GPL-2.0-only
 use Rattle.shr_audit_walks.proofs.ScansCommon.{◌≡◌, ◌<◌, ℕ, Some, slice_get, Attempt, IsScannedAt}
 use Rattle.shr_audit_walks.proofs.scan_walks.are_scanned.Given as goal
 

@@ -1,3 +1,4 @@
+-- SPDX-License-Identifier: GPL-2.0-only
 use Rattle.shr_audit_walks.proofs.ScansCommon.{Decides, IsLawfulWalk, AreLawful}
 use Rattle.shr_audit_passes.proofs.Parts.{parts_all, parts_fail, parts_more}
 use Rattle.shr_audit_walks.proofs.scan_walks.are_walks_each.Goals as goal

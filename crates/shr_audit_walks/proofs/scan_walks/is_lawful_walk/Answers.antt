@@ -1,3 +1,4 @@
+-- SPDX-License-Identifier: GPL-2.0-only
 use Rattle.shr_audit_walks.proofs.ScansCommon.{Decides, IsShaped}
 use Rattle.shr_audit_walks.proofs.LawfulLaw.{lawful_if, not_counts, not_kinds, not_shaped, not_stops}
 use Rattle.shr_audit_walks.proofs.scan_walks.is_lawful_walk.Goals as goal

@@ -1,3 +1,4 @@
+-- SPDX-License-Identifier: GPL-2.0-only
 use Rattle.shr_audit_walks.proofs.VersionsNoting.{two_fall, two_noted}
 use Rattle.shr_audit_walks.proofs.version_table.note_two.Goals as goal
 

@@ -1,3 +1,4 @@
+-- SPDX-License-Identifier: GPL-2.0-only
 use Rattle.shr_audit_walks.proofs.VersionsCommon.{map, sym, subst, counts_of, Notes, if_here, IfOk}
 use Rattle.shr_base.specs.declared.walks.Outcome.{Outcome}
 use Rattle.shr_audit_walks.proofs.version_walks.note_outcome.Goals as goal

@@ -1,3 +1,4 @@
+-- SPDX-License-Identifier: GPL-2.0-only
 use Rattle.shr_audit_walks.proofs.VersionsCommon.{◌≡◌, ap, ◌∙◌, subst, get_or, map, Place, Notes, if_here, place_in, counts_of}
 use Rattle.shr_audit_walks.proofs.VersionsNoting.{walk_all, walk_falls, walk_more}
 use Rattle.shr_base.specs.Walks.{Attempt}

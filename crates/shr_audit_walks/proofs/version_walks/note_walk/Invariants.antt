@@ -1,3 +1,4 @@
+-- SPDX-License-Identifier: GPL-2.0-only
 use Rattle.shr_audit_walks.proofs.VersionsCommon.{true, flat_map, take, Notes}
 use Rattle.shr_audit_walks.proofs.VersionsNoting.{tried}
 use Rattle.shr_audit_walks.proofs.version_walks.note_walk.Given as goal

@@ -1,3 +1,4 @@
+-- SPDX-License-Identifier: GPL-2.0-only
 use Rattle.shr_audit_walks.proofs.VersionsCommon.{true, false, flat_map, subst, WalkRecord, versions_at, Notes}
 use Rattle.shr_audit_walks.proofs.VersionsNoting.{noted_all, noted_falls, noted_more, notes_decide}
 use Rattle.shr_audit_walks.proofs.version_walks.walks_never_fall.Goals as goal

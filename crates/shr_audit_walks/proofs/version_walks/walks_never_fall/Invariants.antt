@@ -1,3 +1,4 @@
+-- SPDX-License-Identifier: GPL-2.0-only
 use Rattle.shr_audit_walks.proofs.VersionsCommon.{true, flat_map, take, versions_at, Notes}
 use Rattle.shr_audit_walks.proofs.version_walks.walks_never_fall.Given as goal
 

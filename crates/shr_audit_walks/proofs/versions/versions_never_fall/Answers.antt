@@ -1,3 +1,4 @@
+-- SPDX-License-Identifier: GPL-2.0-only
 use Rattle.shr_audit_formed.proofs.Eachs.{each_more}
 use Rattle.shr_audit_walks.specs.VersionTable.{IsPartRising}
 use Rattle.shr_audit_walks.proofs.VersionsParts.{of_part, part_falls, parts_all}

@@ -1,3 +1,4 @@
+-- SPDX-License-Identifier: GPL-2.0-only
 use Rattle.shr_audit_walks.proofs.VersionsCommon.{◌≡◌, ◌<◌, ℕ, Some, slice_get, WorkerPart, IsPartRising}
 use Rattle.shr_audit_walks.proofs.versions.versions_never_fall.Given as goal
 

@@ -1,3 +1,4 @@
+-- SPDX-License-Identifier: GPL-2.0-only
 use Rattle.shr_cache.proofs.Common.{subst, Acting, state_of, Uncharges}
 use Rattle.shr_cache.proofs.Links.{with_charge, uncharged}
 use Rattle.shr_cache.proofs.charges.uncharge.Goals as goal

@@ -1,3 +1,4 @@
+-- SPDX-License-Identifier: GPL-2.0-only
 use Rattle.shr_cache.proofs.Common.{ap, sym, subst, ◌∙◌, Acting, IsSame, same_for, Uncharges, AsksToDrop}
 use Rattle.shr_cache.proofs.Told.{stayed, dropped}
 use Rattle.shr_cache.proofs.dels.del.Goals as goal

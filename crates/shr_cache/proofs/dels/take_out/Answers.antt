@@ -1,3 +1,4 @@
+-- SPDX-License-Identifier: GPL-2.0-only
 use Rattle.shr_cache.proofs.Common.{Some, sym, subst, view_of, shape_of, DropGives, Acting, state_of, AsksToDrop}
 use Rattle.shr_cache.specs.Opening.{IsTargetOf}
 use Rattle.shr_cache.specs.Replies.{drop_says}

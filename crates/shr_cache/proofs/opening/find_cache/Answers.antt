@@ -1,3 +1,4 @@
+-- SPDX-License-Identifier: GPL-2.0-only
 use Rattle.std.specs.Prelude.{◌<◌}
 use Rattle.std.proofs.Common.{◌∙◌, sym, subst, refl}
 use Rattle.shr_core.proofs.Owing.{still_none}

@@ -1,3 +1,4 @@
+-- SPDX-License-Identifier: GPL-2.0-only
 use Rattle.shr_cache.proofs.Common.{Some, sym, subst, view_of, shape_of, PinGives, Acting, state_of, SetPinGives}
 use Rattle.shr_cache.specs.Opening.{IsTargetOf}
 use Rattle.shr_cache.specs.Replies.{pin_says}

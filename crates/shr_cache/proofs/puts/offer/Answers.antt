@@ -1,3 +1,4 @@
+-- SPDX-License-Identifier: GPL-2.0-only
 use Rattle.shr_cache.proofs.Common.{◌<◌, Some, sym, subst, Object, View, view_of, shape_of, fresh, AddGives, Acting, state_of, OfferedAs}
 use Rattle.shr_core.specs.declared.table.Core.{Core}
 use Rattle.shr_seats.specs.Shapes.{groups_in}

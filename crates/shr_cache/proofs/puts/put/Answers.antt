@@ -1,3 +1,4 @@
+-- SPDX-License-Identifier: GPL-2.0-only
 use Rattle.shr_cache.proofs.Common.{sym, ◌∙◌, fresh, same_for, same_then, Uncharges}
 use Rattle.shr_cache.proofs.Charged.{puts, taken_back, stays_charged}
 use Rattle.shr_cache.proofs.puts.put.Goals as goal

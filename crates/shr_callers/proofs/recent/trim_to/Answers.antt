@@ -1,3 +1,4 @@
+-- SPDX-License-Identifier: GPL-2.0-only
 use Rattle.std.proofs.Common.{arith, ap, sym, ◌∙◌, ◌-◌, length, ℕ, length-append}
 use Rattle.std.specs.Prelude.{drop}
 use Rattle.shr_callers.proofs.PlainScans.{trimmed, rest}

@@ -1,3 +1,4 @@
+-- SPDX-License-Identifier: GPL-2.0-only
 use Rattle.shr_charge.proofs.Common.{◌≡◌, map, range_with_len, slots_items, usage_in}
 use Rattle.shr_charge.proofs.ending.usage_of.Given as goal
 

@@ -1,3 +1,4 @@
+-- SPDX-License-Identifier: GPL-2.0-only
 use Rattle.shr_charge.proofs.FirstWords.{AreFirstTo}
 use Rattle.shr_charge.proofs.opening.first_words.Given as goal
 

@@ -1,3 +1,4 @@
+-- SPDX-License-Identifier: GPL-2.0-only
 use Rattle.shr_charge.proofs.Common.{sym, ◌∙◌, arith, is_like}
 use Rattle.shr_charge.proofs.Searches.{found_first, none_more}
 use Rattle.shr_charge.proofs.searching.first_like.Goals as goal

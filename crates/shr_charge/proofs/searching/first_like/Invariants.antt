@@ -1,3 +1,4 @@
+-- SPDX-License-Identifier: GPL-2.0-only
 use Rattle.shr_charge.proofs.Common.{◌≡◌, take, None, entry_number}
 use Rattle.shr_charge.proofs.searching.first_like.Given as goal
 

@@ -1,3 +1,4 @@
+-- SPDX-License-Identifier: GPL-2.0-only
 use Rattle.shr_core.proofs.Common.{slots_items, bits_in}
 use Rattle.shr_core.proofs.Endings.{groups_none, groups_next}
 use Rattle.shr_core.proofs.ending.add_groups.Goals as goal

@@ -1,3 +1,4 @@
+-- SPDX-License-Identifier: GPL-2.0-only
 use Rattle.shr_core.proofs.Common.{ℕ, ◌<◌, ◌^◌, subst, sym, All, slots_items, MapEnd, bits_in}
 use Rattle.std.proofs.lemmas.List.Elements.{All-push}
 use Rattle.shr_core.proofs.Endings.{bits_word, units_none, units_next}

@@ -1,3 +1,4 @@
+-- SPDX-License-Identifier: GPL-2.0-only
 use Rattle.shr_core.proofs.Common.{◌≡◌, ◌++◌, ◌<◌, ◌^◌, All, slots_items, MapEnd, bits_in, units_below}
 use Rattle.shr_core.proofs.ending.add_units.Given as goal
 

@@ -1,3 +1,4 @@
+-- SPDX-License-Identifier: GPL-2.0-only
 use Rattle.shr_core.proofs.Common.{ℕ, ◌+◌, ◌*◌, ap, ◌∙◌, slots_items, LookupWord, looks_in, lookups_of}
 use Rattle.shr_core.proofs.Endings.{word_is, lookups_none, lookups_next}
 use Rattle.shr_core.proofs.ending.read_lookups.Goals as goal

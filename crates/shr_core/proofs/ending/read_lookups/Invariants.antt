@@ -1,3 +1,4 @@
+-- SPDX-License-Identifier: GPL-2.0-only
 use Rattle.shr_core.proofs.Common.{◌≡◌, slots_items, looks_in, lookups_below}
 use Rattle.shr_core.proofs.ending.read_lookups.Given as goal
 

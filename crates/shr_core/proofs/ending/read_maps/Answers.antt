@@ -1,3 +1,4 @@
+-- SPDX-License-Identifier: GPL-2.0-only
 use Rattle.shr_core.proofs.Common.{◌<◌, ◌^◌, ◌∙◌, subst, sym, All, slots_items, MapEnd, bits_in}
 use Rattle.std.proofs.lemmas.List.Elements.{All-nil}
 use Rattle.shr_core.proofs.Endings.{nodes_none, nodes_next}

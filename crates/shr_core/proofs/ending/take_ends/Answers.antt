@@ -1,3 +1,4 @@
+-- SPDX-License-Identifier: GPL-2.0-only
 use Rattle.shr_core.proofs.Common.{◌≡◌, ◌≢◌, ℕ, Bool, false, List, ◌++◌, map, get_or, sym, refl, ap, ◌∙◌, arith, get_or-set_same, get_or-set_other, dite, ℕ_discrete, slots_items, slots_filled, Slot, end_value, place_ends, entries_in, items_in, place_number, Sizes, slots_counts}
 use Rattle.shr_core.proofs.Endings.{rows_none, rows_more, rows_all}
 use Rattle.shr_core.proofs.ending.take_ends.Goals as goal

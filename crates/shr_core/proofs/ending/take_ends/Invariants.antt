@@ -1,3 +1,4 @@
+-- SPDX-License-Identifier: GPL-2.0-only
 use Rattle.shr_core.proofs.Common.{◌≡◌, ℕ, ◌<◌, true, false, map, get_or, slots_items, slots_filled, end_value, ends_below, entries_in, items_in, slots_len}
 use Rattle.std.specs.Mem.Slots.Ownership.{Filled}
 use Rattle.shr_core.proofs.Laying.{number_at}

@@ -1,3 +1,4 @@
+-- SPDX-License-Identifier: GPL-2.0-only
 use Rattle.shr_core.proofs.Common.{◌≤◌}
 use Rattle.shr_core.proofs.ending.used_places.Given as goal
 

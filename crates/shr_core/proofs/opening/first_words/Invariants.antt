@@ -1,3 +1,4 @@
+-- SPDX-License-Identifier: GPL-2.0-only
 use Rattle.shr_core.proofs.Common.{◌≡◌, length, AreFirstWords}
 use Rattle.shr_core.proofs.opening.first_words.Given as goal
 

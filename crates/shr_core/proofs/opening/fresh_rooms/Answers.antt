@@ -1,3 +1,4 @@
+-- SPDX-License-Identifier: GPL-2.0-only
 use Rattle.shr_core.proofs.Common.{[], ◌∷◌, length, ap, sym, subst, arith, length-append, AreFreshRooms, Each-push, IsFreshRoom}
 use Rattle.shr_core.proofs.opening.fresh_rooms.Goals as goal
 

@@ -1,3 +1,4 @@
+-- SPDX-License-Identifier: GPL-2.0-only
 use Rattle.shr_core.proofs.Common.{◌≡◌, length, AreFreshRooms}
 use Rattle.shr_core.proofs.opening.fresh_rooms.Given as goal
 

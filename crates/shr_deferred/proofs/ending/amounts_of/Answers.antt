@@ -1,3 +1,4 @@
+-- SPDX-License-Identifier: GPL-2.0-only
 use Rattle.shr_deferred.proofs.Common.{sym, ◌∙◌, arith, slots_items}
 use Rattle.shr_deferred.proofs.Amounts.{amounts_none, amounts_skip, amounts_push, word_read}
 use Rattle.shr_deferred.proofs.ending.amounts_of.Goals as goal

@@ -1,3 +1,4 @@
+-- SPDX-License-Identifier: GPL-2.0-only
 use Rattle.shr_deferred.proofs.Common.{◌≡◌, ◌%◌, ◌^◌, get_or, slots_items}
 use Rattle.shr_deferred.specs.Left.{amounts}
 use Rattle.shr_deferred.proofs.ending.amounts_of.Given as goal

@@ -1,3 +1,4 @@
+-- SPDX-License-Identifier: GPL-2.0-only
 use Rattle.shr_drop.proofs.Common.{◌≡◌, ℕ, List, [], ◌∷◌, ◌++◌, ap, sym, subst, ◌∙◌, Place, Isolation, place_number, shape_of, Keeps, state_of, Isolates, found_place, visitor_of, AreIsolated, visitor_in, get_or, IsPlaceOfShape, Listing}
 use Rattle.std.proofs.lemmas.Option.{slice_get_read}
 use Rattle.shr_base.specs.declared.scripts.CacheDecl.{CacheDecl}

@@ -1,3 +1,4 @@
+-- SPDX-License-Identifier: GPL-2.0-only
 use Rattle.shr_drop.proofs.Common.{◌≡◌, ℕ, refl, subst, Bool, [], arith, place_number, listing_of, state_of, Visitor, visitor_in, ScansOnce, AreIsolated, keeps_refl, keeps_trans}
 use Rattle.shr_walk.specs.Listing.{ready_stays}
 use Rattle.shr_base.specs.declared.replies.IsolateEnd.TheVariants.{Spent}

@@ -1,3 +1,4 @@
+-- SPDX-License-Identifier: GPL-2.0-only
 use Rattle.shr_drop.proofs.Common.{◌≡◌, ◌≤◌, place_number, Keeps, listing_of, state_of, IsSameElse, visitor_in}
 use Rattle.shr_drop.proofs.Turning.{AreSoFar}
 use Rattle.shr_drop.proofs.visits.visit_all.Given as goal

@@ -1,3 +1,4 @@
+-- SPDX-License-Identifier: GPL-2.0-only
 use Rattle.shr_gen.proofs.FormsCommon.{◌≡◌, ◌∙◌, List, ap, option_map, codes, same_Some, Row, Text, first_of, found_of, rows_of}
 use Rattle.shr_gen.proofs.form.form_in.Goals as goal
 

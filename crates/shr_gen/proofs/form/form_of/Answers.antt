@@ -1,3 +1,4 @@
+-- SPDX-License-Identifier: GPL-2.0-only
 use Rattle.shr_gen.proofs.FormsCommon.{◌∙◌, ap, sym, subst, map, string_bytes, IsAmong, fault_of, is_simple, is_simple_and_free, subcommand_of, has_hyphen, ⊎_elim, kind_of, subcommand_rows_of}
 use Rattle.clap.proofs.WalkLemmas.{list_any-map}
 use Rattle.shr_gen.proofs.Splitting.{simple, simple_and_free}

@@ -1,3 +1,4 @@
+-- SPDX-License-Identifier: GPL-2.0-only
 use Rattle.shr_gen.proofs.Reading.{no_commands, no_sizes}
 use Rattle.shr_gen.proofs.form.gen_form.Goals as goal
 

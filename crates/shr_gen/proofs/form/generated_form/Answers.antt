@@ -1,3 +1,4 @@
+-- SPDX-License-Identifier: GPL-2.0-only
 use Rattle.shr_gen.proofs.FormsCommon.{codes, found_of}
 use Rattle.shr_gen.proofs.Matching.{given_is, given_not}
 use Rattle.shr_gen.proofs.form.generated_form.Goals as goal

@@ -1,3 +1,4 @@
+-- SPDX-License-Identifier: GPL-2.0-only
 use Rattle.shr_gen.proofs.FormsCommon.{◌∙◌, bytes_eq-Decides}
 use Rattle.shr_gen.proofs.Reading.{unread, spelled_otherwise}
 use Rattle.shr_gen.proofs.form.number_in.Goals as goal

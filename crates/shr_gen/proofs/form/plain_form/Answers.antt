@@ -1,3 +1,4 @@
+-- SPDX-License-Identifier: GPL-2.0-only
 use Rattle.shr_gen.proofs.FormsCommon.{◌≡◌, ◌∙◌, ◌∷◌, [], List, codes, sym, ap, subst, arith, ℕ, string_bytes, bytes_decides, ReadsAs}
 use Rattle.shr_gen.proofs.Reading.{one_word, four_words}
 use Rattle.shr_gen.proofs.form.plain_form.Goals as goal

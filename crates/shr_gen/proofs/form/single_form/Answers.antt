@@ -1,3 +1,4 @@
+-- SPDX-License-Identifier: GPL-2.0-only
 use Rattle.shr_gen.proofs.FormsCommon.{◌∙◌, ◌∷◌, [], List, ap, sym, ℕ, codes, bytes_decides}
 use Rattle.shr_gen.proofs.form.single_form.Goals as goal
 

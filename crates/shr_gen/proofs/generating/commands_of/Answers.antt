@@ -1,3 +1,4 @@
+-- SPDX-License-Identifier: GPL-2.0-only
 use Rattle.shr_gen.proofs.Common.{◌∙◌, ◌+◌, ap, drawn_after, chosen_by, generated_command}
 use Rattle.shr_gen.proofs.Making.{made_more, one_more_drawn}
 use Rattle.shr_gen.proofs.generating.commands_of.Goals as goal

@@ -1,3 +1,4 @@
+-- SPDX-License-Identifier: GPL-2.0-only
 use Rattle.shr_gen.proofs.Common.{◌≡◌, ◌+◌, map, range_with_len, drawn_after, chosen_by, generated_command}
 use Rattle.shr_gen.proofs.generating.commands_of.Given as goal
 

@@ -1,3 +1,4 @@
+-- SPDX-License-Identifier: GPL-2.0-only
 use Rattle.shr_gen.proofs.Validity.{valid_made}
 use Rattle.shr_gen.proofs.generating.generate.Goals as goal
 

@@ -1,3 +1,4 @@
+-- SPDX-License-Identifier: GPL-2.0-only
 use Rattle.shr_gen.specs.Generated.{group_at}
 use Rattle.shr_gen.proofs.Making.{made_more}
 use Rattle.shr_gen.proofs.generating.groups.Goals as goal

@@ -1,3 +1,4 @@
+-- SPDX-License-Identifier: GPL-2.0-only
 use Rattle.shr_gen.proofs.Common.{◌≡◌, map, range_with_len, group_at}
 use Rattle.shr_gen.proofs.generating.groups.Given as goal
 

@@ -1,3 +1,4 @@
+-- SPDX-License-Identifier: GPL-2.0-only
 use Rattle.shr_gen.proofs.Common.{◌≡◌, ◌∙◌, ◌+◌, ◌*◌, ◌∷◌, [], ℕ, map, ap, arith, drawn_after, commands_from}
 use Rattle.std.proofs.lemmas.List.{map-append}
 use Rattle.shr_base.specs.declared.scripts.WorkerScript.{WorkerScript}

@@ -1,3 +1,4 @@
+-- SPDX-License-Identifier: GPL-2.0-only
 use Rattle.shr_gen.proofs.Common.{◌≡◌, ◌*◌, map, range_with_len, drawn_after, commands_from}
 use Rattle.shr_gen.proofs.generating.workers_of.Given as goal
 

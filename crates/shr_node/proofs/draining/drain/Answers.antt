@@ -1,3 +1,4 @@
+-- SPDX-License-Identifier: GPL-2.0-only
 use Rattle.shr_node.proofs.Common.{◌≡◌, ℕ, ◌-◌, [], length, refl, sym, ap, subst, ◌∙◌, arith, Core, View, Shape, Claims, EmptiesOne, LeavesOne, DrainWorn, IsPlaceOfShape, groups_in, view_of, shape_of, made_by_draws}
 use Rattle.shr_node.specs.Draining.{LacksOne}
 use Rattle.shr_node.proofs.Draws.{IsDraining, draining_none, drawing_next, drawing_stops, filled_before, worn_before}

@@ -1,3 +1,4 @@
+-- SPDX-License-Identifier: GPL-2.0-only
 use Rattle.shr_node.proofs.Common.{◌≡◌, ◌≤◌, groups_in, view_of, shape_of}
 use Rattle.shr_node.proofs.Draws.{IsDraining}
 use Rattle.shr_node.proofs.draining.drain.Given as goal

@@ -1,3 +1,4 @@
+-- SPDX-License-Identifier: GPL-2.0-only
 use Rattle.shr_node.proofs.Common.{Shape, ◌++◌, arith, ap, length, refl, sym, subst, ◌∙◌, Spent, Core, Room, Seated, view_of, shape_of, place_number, IsRoomReady, DrainWorn}
 use Rattle.shr_node.proofs.Places.{IsOwnTaken, still_seat, still_taken, own_met, filled_some, drain_ready, drain_leaves, drain_made, empty_leaves, empty_passed}
 use Rattle.shr_node.proofs.draining.drain_one.Goals as goal

@@ -1,3 +1,4 @@
+-- SPDX-License-Identifier: GPL-2.0-only
 use Rattle.std.proofs.Common.{sym, ap, ◌∙◌, eqb}
 use Rattle.shr_node.proofs.Marking.{filled_open}
 use Rattle.shr_node.proofs.draining.is_empty.Goals as goal

@@ -1,3 +1,4 @@
+-- SPDX-License-Identifier: GPL-2.0-only
 use Rattle.shr_node.proofs.Common.{◌≡◌, ◌<◌, cond, sym, ap, subst, ◌∙◌, place_number, View, has_room, view_of, shape_of, with_stored, with_set, in_hand, last_entry, IsInHand}
 use Rattle.shr_node.proofs.Keeping.{kept_has, kept_same}
 use Rattle.shr_node.proofs.rooms.keep.Goals as goal

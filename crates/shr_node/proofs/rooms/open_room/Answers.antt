@@ -1,3 +1,4 @@
+-- SPDX-License-Identifier: GPL-2.0-only
 use Rattle.shr_node.proofs.Common.{◌≡◌, ◌≢◌, ℕ, refl, sym, ap, subst, ◌∙◌, arith, parent_of, place_number, Place, Core, View, Room, Seated, IsPlaceOfShape, IsTaken, list_content, with_given, view_of, shape_of, Shape, RoomContent, group_of}
 use Rattle.shr_node.proofs.Climbing.{IsOnWay, way_begins, way_goes, way_ends, below_root, place_of}
 use Rattle.shr_node.proofs.Acting.{opened_here, bare_hands}

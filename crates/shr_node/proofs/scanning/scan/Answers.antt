@@ -1,3 +1,4 @@
+-- SPDX-License-Identifier: GPL-2.0-only
 use Rattle.shr_node.proofs.Common.{sym, ap, subst, ◌∙◌, Spent, Core, Room, Seated, view_of, shape_of, IsRoomReady, IsUntouched, ScanGives}
 use Rattle.shr_node.specs.declared.answers.NodeScan.{NodeScan}
 use Rattle.shr_node.specs.declared.answers.NodeScan.TheVariants as node

@@ -1,3 +1,4 @@
+-- SPDX-License-Identifier: GPL-2.0-only
 use Rattle.shr_node.proofs.Common.{◌≡◌, ℕ, ◌+◌, ◌<◌, true, List, length, get_or, set, sym, ap, subst, ◌∙◌, arith, length-set, get_or-set_same, get_or-set_other, dite, ℕ_discrete, Shape, is_child, parent_of, child_again, child_takes, groups_in, shape_of}
 use Rattle.shr_node.proofs.splicing.children_of.Goals as goal
 

@@ -1,3 +1,4 @@
+-- SPDX-License-Identifier: GPL-2.0-only
 use Rattle.shr_node.proofs.Common.{◌≡◌, ℕ, ◌<◌, ◌≤◌, true, length, is_child, slice_index, shape_of}
 use Rattle.shr_node.proofs.splicing.children_of.Given as goal
 

@@ -1,3 +1,4 @@
+-- SPDX-License-Identifier: GPL-2.0-only
 use Rattle.shr_node.proofs.Common.{sym, subst, ap, ◌∙◌, ◌&&◌, nat_lt, Spent, Listed, Core, View, Room, Seated, IsPlaceOfShape, view_of, shape_of, place_number, parent_of, last_entry, with_given, with_stored, MayStore, group_place, SpliceWorn, AreBothTaken}
 use Rattle.shr_node.proofs.Pairing.{may_above, may_child, stored_raised, back_has, back_same, back_whole, last_has, last_same, last_whole}
 use Rattle.shr_node.proofs.Closing.{above_opens, both_met, both_gain}

@@ -1,3 +1,4 @@
+-- SPDX-License-Identifier: GPL-2.0-only
 use Rattle.shr_node.proofs.Common.{ℕ, ◌∙◌, [], arith, dite, ℕ_discrete, sym, subst, slice_index, place_number, group_place, view_of, KnowsClosed}
 use Rattle.shr_node.proofs.Gaining.{gains_then}
 use Rattle.shr_node.proofs.Looks.{known_still}

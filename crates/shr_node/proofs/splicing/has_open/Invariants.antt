@@ -1,3 +1,4 @@
+-- SPDX-License-Identifier: GPL-2.0-only
 use Rattle.shr_node.proofs.Common.{◌≡◌, ℕ, ◌<◌, [], slice_index, view_of, place_number, group_place, Gains, KnowsClosed}
 use Rattle.shr_node.proofs.splicing.has_open.Given as goal
 

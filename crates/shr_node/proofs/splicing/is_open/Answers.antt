@@ -1,3 +1,4 @@
+-- SPDX-License-Identifier: GPL-2.0-only
 use Rattle.shr_node.proofs.Common.{[], sym, ap, subst, ◌∙◌, View, Room, view_of, place_number, list_content, Gains, Knows}
 use Rattle.std.proofs.lemmas.Bool.{not-false}
 use Rattle.shr_node.proofs.Acting.{was_left}

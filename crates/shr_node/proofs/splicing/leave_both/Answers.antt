@@ -1,3 +1,4 @@
+-- SPDX-License-Identifier: GPL-2.0-only
 use Rattle.shr_node.proofs.Common.{ap, place_number, list_content, view_of}
 use Rattle.shr_node.proofs.Closing.{child_left}
 use Rattle.shr_node.proofs.splicing.leave_both.Goals as goal

@@ -1,3 +1,4 @@
+-- SPDX-License-Identifier: GPL-2.0-only
 use Rattle.shr_node.proofs.Common.{◌≡◌, ℕ, false, true, List, [], length, get_or, replicate, refl, sym, ap, subst, ◌∙◌, arith, length-replicate, length-set, parent_of, Core, Shape, IsPlaceOfShape, group_place, groups_in, view_of, shape_of}
 use Rattle.shr_node.proofs.Gaining.{gains_none, gains_then}
 use Rattle.shr_node.proofs.Looks.{first_is, left_first, looked_first, own_next, looked_next, left_next, looked_past, left_past}

@@ -1,3 +1,4 @@
+-- SPDX-License-Identifier: GPL-2.0-only
 use Rattle.shr_node.proofs.Common.{◌≡◌, [], length, view_of, shape_of, Gains, AreLooked, IsMarked}
 use Rattle.shr_node.proofs.Looks.{AreLeft}
 use Rattle.shr_node.proofs.splicing.open_lists.Given as goal

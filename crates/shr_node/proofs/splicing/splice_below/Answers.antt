@@ -1,3 +1,4 @@
+-- SPDX-License-Identifier: GPL-2.0-only
 use Rattle.shr_node.proofs.Common.{◌≡◌, ℕ, zero, suc, ◌<◌, true, cond, List, [], ◌∷◌, length, sym, refl, ap, subst, ◌∙◌, ⊎_elim, arith, eq-eqb, append-nil, dite, ℕ_discrete, Spent, place_number, Listed, IsTree, is_child, parent_of, IsAtOrAbove, IsAtOrAbove-le, IsAtOrAbove-refl, IsAtOrAbove-trans, child_again, Each-none, Each-push, Core, View, Shape, groups_in, view_of, shape_of, Gains, IsKnownClosed, KnowsClosed, slice_index, Closing, group_place, made_by_closing, bits_by, IsPair, SpliceWorn}
 use Rattle.shr_base.specs.declared.replies.Spent.TheVariants as spent
 use Rattle.shr_node.specs.declared.answers.SpliceAnswer.{SpliceAnswer}

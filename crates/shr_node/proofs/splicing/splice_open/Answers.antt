@@ -1,3 +1,4 @@
+-- SPDX-License-Identifier: GPL-2.0-only
 use Rattle.shr_node.proofs.Common.{◌≡◌, ℕ, true, ◌-◌, ◌<◌, [], length, sym, ap, subst, ◌∙◌, arith, is_child, place_number, group_place, Core, View, Shape, KnowsClosed, groups_in, view_of, shape_of, made_by_closing, bits_by}
 use Rattle.shr_node.specs.Closes.{ClosesOne, LeavesWorn, LeavesFree}
 use Rattle.shr_node.proofs.Looks.{looked_still}

@@ -1,3 +1,4 @@
+-- SPDX-License-Identifier: GPL-2.0-only
 use Rattle.shr_node.proofs.Common.{◌≡◌, ◌≤◌, groups_in, view_of, shape_of, AreLooked}
 use Rattle.shr_node.proofs.Splices.{IsSplicing}
 use Rattle.shr_node.proofs.splicing.splice_open.Given as goal

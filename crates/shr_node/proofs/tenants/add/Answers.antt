@@ -1,3 +1,4 @@
+-- SPDX-License-Identifier: GPL-2.0-only
 use Rattle.shr_node.proofs.Common.{Bool, not, ap, holds, add_entry, NodeAnswer, sym, refl, subst, ◌∙◌, view_of}
 use Rattle.shr_node.proofs.Acting.{asked_of, Hears, IsCall, call_ready, call_untouched, call_gives}
 use Rattle.shr_node.proofs.tenants.add.Given.{Over}

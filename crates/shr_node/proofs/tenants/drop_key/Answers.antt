@@ -1,3 +1,4 @@
+-- SPDX-License-Identifier: GPL-2.0-only
 use Rattle.shr_node.proofs.Common.{named_in, drop_kind_of, drop_entry, NodeAnswer, sym, refl, subst, ◌∙◌, view_of}
 use Rattle.shr_base.specs.declared.journals.DropKind.{DropKind}
 use Rattle.shr_node.proofs.Acting.{asked_of, dropped, Hears, IsCall, call_ready, call_untouched, call_gives}

@@ -1,3 +1,4 @@
+-- SPDX-License-Identifier: GPL-2.0-only
 use Rattle.shr_node.proofs.Common.{ℕ, List, Option, option_map, named_in, look_entry, NodeAnswer, sym, refl, subst, ◌∙◌, view_of}
 use Rattle.shr_node.proofs.Acting.{asked_of, no_value, Hears, IsCall, call_ready, call_untouched, call_gives}
 use Rattle.shr_node.proofs.tenants.look.Given.{Over}

@@ -1,3 +1,4 @@
+-- SPDX-License-Identifier: GPL-2.0-only
 use Rattle.shr_offline.proofs.Common.{◌≡◌, ◌/◌, ◌%◌, ℕ, List, [], ◌∷◌, ◌++◌, refl, ap, subst, sym, ◌∙◌, arith, Shape, shape_of, GainsMoves, carry_move, carries_noted}
 use Rattle.shr_model.specs.Groups.{parent_of}
 use Rattle.shr_offline.proofs.CarriesLaws.{carried_more}

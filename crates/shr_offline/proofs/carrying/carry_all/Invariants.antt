@@ -1,3 +1,4 @@
+-- SPDX-License-Identifier: GPL-2.0-only
 use Rattle.shr_offline.proofs.Common.{◌≡◌, ◌+◌, ◌≤◌, shape_of, count_of_places, AreCarried}
 use Rattle.shr_offline.proofs.carrying.carry_all.Given as goal
 

@@ -1,3 +1,4 @@
+-- SPDX-License-Identifier: GPL-2.0-only
 use Rattle.shr_offline.proofs.Common.{◌≡◌, ℕ, ap, subst, sym, ◌∙◌, view_of, shape_of, AreSpliced, all_places, Serial, DoneAnswer, Shared, state_of, HandsOver, WorkerState, HandsOverAs}
 use Rattle.shr_charge.specs.declared.answers.DoneAnswer.TheVariants as ended
 use Rattle.shr_node.specs.declared.answers.SpliceAnswer.TheVariants as splice

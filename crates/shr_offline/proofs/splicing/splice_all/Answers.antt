@@ -1,3 +1,4 @@
+-- SPDX-License-Identifier: GPL-2.0-only
 use Rattle.shr_offline.proofs.Common.{◌/◌, ◌%◌, ◌<◌, ap, sym, subst, ◌∙◌, arith, Shape, Claims, view_of, shape_of, IsSpliced}
 use Rattle.shr_core.specs.declared.table.Core.{Core}
 use Rattle.shr_node.specs.Splicing.{AreChildren}

@@ -1,3 +1,4 @@
+-- SPDX-License-Identifier: GPL-2.0-only
 use Rattle.shr_offline.proofs.Common.{◌≡◌, ◌*◌, ◌≤◌, None, view_of, shape_of, AreSpliced, first_places, no_rooms}
 use Rattle.shr_offline.proofs.splicing.splice_all.Given as goal
 

@@ -1,3 +1,4 @@
+-- SPDX-License-Identifier: GPL-2.0-only
 use Rattle.shr_outside.proofs.Sending.{sent}
 use Rattle.shr_outside.proofs.paper.send.Goals as goal
 

@@ -1,3 +1,4 @@
+-- SPDX-License-Identifier: GPL-2.0-only
 use Rattle.std.proofs.Common.{arith}
 use Rattle.shr_model.proofs.PassLaws.{follows}
 use Rattle.shr_deferred.proofs.SeatLaws.{Gains-none, Gains-trans}

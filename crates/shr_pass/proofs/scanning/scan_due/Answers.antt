@@ -1,3 +1,4 @@
+-- SPDX-License-Identifier: GPL-2.0-only
 use Rattle.std.proofs.Common.{sym, ◌∙◌, subst, arith}
 use Rattle.shr_base.specs.declared.walks.Ending.{Ending}
 use Rattle.shr_model.specs.Pass.{due, MadeOf}

@@ -1,3 +1,4 @@
+-- SPDX-License-Identifier: GPL-2.0-only
 use Rattle.std.proofs.Common.{◌≡◌, ◌+◌, ◌*◌, ◌≤◌}
 use Rattle.shr_base.specs.declared.walks.Ending.TheVariants.{Through}
 use Rattle.shr_model.specs.Pass.{due, due_asks, ask_size}

@@ -1,3 +1,4 @@
+-- SPDX-License-Identifier: GPL-2.0-only
 use Rattle.shr_plain.proofs.Common.{◌≡◌, ◌≢◌, ℕ, Bool, false, List, ◌++◌, map, get_or, sym, refl, ap, ◌∙◌, arith, dite, ℕ_discrete, slots_items, slots_filled, Sizes, Place, Slot, units_end_value, units_ends, units_ends_below, entries_at, get_or-set_same, get_or-set_other, slots_counts}
 use Rattle.shr_seats.proofs.RowLaws.{place_inside}
 use Rattle.shr_plain.proofs.Endings.{ends_none, ends_more}

@@ -1,3 +1,4 @@
+-- SPDX-License-Identifier: GPL-2.0-only
 use Rattle.shr_plain.proofs.Common.{◌≡◌, ℕ, ◌<◌, true, false, map, get_or, slots_items, slots_filled, units_end_value, units_ends_below, entries_at, slots_len}
 use Rattle.std.specs.Mem.Slots.Ownership.{Filled}
 use Rattle.shr_plain.proofs.ending.take_ends.Given as goal

@@ -1,3 +1,4 @@
+-- SPDX-License-Identifier: GPL-2.0-only
 use Rattle.shr_plain.proofs.Common.{◌≡◌, [], length, ap, sym, subst, ◌∙◌, arith, length_push, Each, Slot, room_journal}
 use Rattle.shr_seats.proofs.Sums.{Each-push}
 use Rattle.shr_plain.proofs.opening.bare_rooms.Goals as goal

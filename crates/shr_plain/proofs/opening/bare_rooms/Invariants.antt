@@ -1,3 +1,4 @@
+-- SPDX-License-Identifier: GPL-2.0-only
 use Rattle.shr_plain.proofs.Common.{◌≡◌, length, [], Each, Slot, room_journal}
 use Rattle.shr_plain.proofs.opening.bare_rooms.Given as goal
 

@@ -1,3 +1,4 @@
+-- SPDX-License-Identifier: GPL-2.0-only
 use Rattle.shr_plain.proofs.Common.{◌≡◌, map, take, setting_by}
 use Rattle.shr_plain.proofs.opening.settings_of.Given as goal
 

@@ -1,3 +1,4 @@
+-- SPDX-License-Identifier: GPL-2.0-only
 use Rattle.std.proofs.Common.{◌≡◌, ◌*◌, ◌^◌, ◌≤◌}
 use Rattle.shr_pool.specs.Passes as passes
 use Rattle.shr_walk.specs.Acting.{IsSame}

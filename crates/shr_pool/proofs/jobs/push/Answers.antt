@@ -1,3 +1,4 @@
+-- SPDX-License-Identifier: GPL-2.0-only
 use Rattle.shr_pool.proofs.Keeping.{pushes, filled}
 use Rattle.shr_pool.proofs.jobs.push.Goals as goal
 

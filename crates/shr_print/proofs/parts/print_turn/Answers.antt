@@ -1,3 +1,4 @@
+-- SPDX-License-Identifier: GPL-2.0-only
 use Rattle.std.proofs.Common.{◌-◌, length, arith}
 use Rattle.shr_print.proofs.Cutting.{risen}
 use Rattle.shr_print.proofs.parts.print_turn.Goals as goal

@@ -1,3 +1,4 @@
+-- SPDX-License-Identifier: GPL-2.0-only
 use Rattle.shr_outside.specs.Paper.{Prints}
 use Rattle.shr_print.specs.Cuts.{cut_at}
 use Rattle.shr_print.proofs.parts.put_parts.Given as goal

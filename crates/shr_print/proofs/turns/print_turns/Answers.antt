@@ -1,3 +1,4 @@
+-- SPDX-License-Identifier: GPL-2.0-only
 use Rattle.std.proofs.Common.{◌+◌, ◌<◌, ◌≤◌, length, arith}
 use Rattle.shr_outside.proofs.Printing.{prints_as, prints_both}
 use Rattle.shr_outside.specs.Paper.{Prints}

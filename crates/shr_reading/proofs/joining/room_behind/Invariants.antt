@@ -1,3 +1,4 @@
+-- SPDX-License-Identifier: GPL-2.0-only
 use Rattle.std.proofs.Common.{◌≡◌, ◌+◌, take, map, length}
 use Rattle.std.specs.Prelude.{sum_by}
 use Rattle.shr_reading.proofs.joining.room_behind.Given as goal

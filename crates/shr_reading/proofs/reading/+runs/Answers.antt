@@ -1,3 +1,4 @@
+-- SPDX-License-Identifier: GPL-2.0-only
 use Rattle.std.proofs.Common.{◌++◌}
 use Rattle.shr_script.specs.Spelling.{IsSpelling}
 use Rattle.shr_script.specs.Content.{content_of}

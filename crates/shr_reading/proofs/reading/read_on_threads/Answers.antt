@@ -1,3 +1,4 @@
+-- SPDX-License-Identifier: GPL-2.0-only
 use Rattle.std.proofs.Common.{◌∙◌, sym}
 use Rattle.shr_script.specs.Content.{content_of, lines_of}
 use Rattle.shr_script.proofs.ContentLaws.{same_content}

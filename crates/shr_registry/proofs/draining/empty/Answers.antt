@@ -1,3 +1,4 @@
+-- SPDX-License-Identifier: GPL-2.0-only
 use Rattle.shr_registry.proofs.Common.{[], refl, ap, subst, ◌∙◌, arith, Core, Shape, view_of, shape_of, made_from}
 use Rattle.shr_base.specs.declared.replies.HalfWhy.TheVariants as why
 use Rattle.shr_node.specs.Draining.{DrainIsWorn, DrainLacks, IsDrained}

@@ -1,3 +1,4 @@
+-- SPDX-License-Identifier: GPL-2.0-only
 use Rattle.shr_core.specs.Seats.{view_of, shape_of}
 use Rattle.std.specs.Prelude.{◌≡◌}
 use Rattle.shr_registry.proofs.Empties.{SoFar}

@@ -1,3 +1,4 @@
+-- SPDX-License-Identifier: GPL-2.0-only
 use Rattle.shr_registry.proofs.Common.{ap, ◌∙◌, Seated, view_of}
 use Rattle.shr_registry.proofs.draining.settle.Goals as goal
 use Rattle.shr_registry.proofs.Searches.{more_loaded}

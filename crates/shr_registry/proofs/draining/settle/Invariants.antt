@@ -1,3 +1,4 @@
+-- SPDX-License-Identifier: GPL-2.0-only
 use Rattle.shr_registry.proofs.Common.{◌≡◌, view_of, Loads}
 use Rattle.shr_registry.proofs.draining.settle.Given as goal
 

@@ -1,3 +1,4 @@
+-- SPDX-License-Identifier: GPL-2.0-only
 use Rattle.shr_registry.proofs.Common.{subst, Core, view_of, shape_of, FindGives}
 use Rattle.shr_registry.proofs.Agains.{loads_nothing, find_since, found_again, dated_again}
 use Rattle.shr_registry.proofs.finding.find.Goals as goal

@@ -1,3 +1,4 @@
+-- SPDX-License-Identifier: GPL-2.0-only
 use Rattle.shr_registry.proofs.Common.{List, ap, subst, sym, ◌∙◌, PoolEntry, Core, Seated, View, IsMet, phase_of, places_in, with_pool_given, view_of, shape_of, pool_of, FindAnswer, FindGives, IsDatedBy}
 use Rattle.shr_registry.proofs.Adds.{journal}
 use Rattle.shr_registry.proofs.Agains.{met_by}

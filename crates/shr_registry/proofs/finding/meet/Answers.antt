@@ -1,3 +1,4 @@
+-- SPDX-License-Identifier: GPL-2.0-only
 use Rattle.shr_registry.proofs.Common.{ap, subst, ◌∙◌, pool_of, Core, Seated, view_of, shape_of}
 use Rattle.shr_core.specs.Answers.{MetBy}
 use Rattle.shr_core.specs.declared.lookups.Lookup.TheVariants as lookup

@@ -1,3 +1,4 @@
+-- SPDX-License-Identifier: GPL-2.0-only
 use Rattle.shr_registry.proofs.finding.remember.Goals as goal
 
 pub keep-requires : goal.keep-requires

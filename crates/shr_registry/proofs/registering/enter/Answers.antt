@@ -1,3 +1,4 @@
+-- SPDX-License-Identifier: GPL-2.0-only
 use Rattle.shr_registry.proofs.Common.{RegisterLacksMemory, ◌≡◌, List, ◌++◌, ◌∷◌, [], sym, ap, ◌∙◌, arith, subst, PoolEntry, Registered, lowest_idle, pool_of, view_of, shape_of, Core, MayPhase, Raises, Shape, only_pool}
 use Rattle.shr_registry.proofs.Registers.{dying_most, registered_before, registered_hand, registered_now, both, has_still, not_live, lowest, may_step, none_left, no_memory, lowest_none}
 use Rattle.shr_registry.proofs.registering.enter.Goals as goal

@@ -1,3 +1,4 @@
+-- SPDX-License-Identifier: GPL-2.0-only
 use Rattle.shr_registry.proofs.Common.{ap, subst, ◌∙◌, begins_more, Core, Seated, places_in, with_pool_given, only_pool, view_of, shape_of, RegisterGives}
 use Rattle.shr_registry.proofs.Givings.{register_given}
 use Rattle.shr_registry.proofs.registering.register.Goals as goal

@@ -1,3 +1,4 @@
+-- SPDX-License-Identifier: GPL-2.0-only
 use Rattle.shr_registry.proofs.Common.{EndsLacking, ◌++◌, ◌∷◌, [], List, ap, ◌∙◌, arith, subst, sym, PoolEntry, Unregistered, from_of, Core, Raises, Shape, view_of, shape_of}
 use Rattle.shr_registry.proofs.Registers.{dying_most}
 use Rattle.shr_registry.proofs.Retires.{ended_now, not_live_now, no_memory}

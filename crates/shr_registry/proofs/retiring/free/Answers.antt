@@ -1,3 +1,4 @@
+-- SPDX-License-Identifier: GPL-2.0-only
 use Rattle.shr_registry.proofs.Common.{ap, subst, Core, Seated, Raises, view_of}
 use Rattle.shr_registry.proofs.Retires.{some_spare, idle_spare, freed_now}
 use Rattle.shr_registry.proofs.retiring.free.Goals as goal

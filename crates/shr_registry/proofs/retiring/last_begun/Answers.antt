@@ -1,3 +1,4 @@
+-- SPDX-License-Identifier: GPL-2.0-only
 use Rattle.shr_registry.proofs.Common.{◌∙◌, ap, arith, refl, from_of}
 use Rattle.shr_registry.proofs.Retires.{begun_before, begun_here, begun_whole, begun_none}
 use Rattle.shr_registry.proofs.retiring.last_begun.Goals as goal

@@ -1,3 +1,4 @@
+-- SPDX-License-Identifier: GPL-2.0-only
 use Rattle.shr_registry.proofs.Common.{◌≡◌, ◌≤◌, length, take, from_of}
 use Rattle.shr_registry.proofs.retiring.last_begun.Given as goal
 

@@ -1,3 +1,4 @@
+-- SPDX-License-Identifier: GPL-2.0-only
 use Rattle.shr_registry.proofs.Common.{ap, ◌∙◌, Core, Seated, places_in, with_pool_given, only_pool, view_of, shape_of}
 use Rattle.shr_registry.proofs.Endings.{rests_given}
 use Rattle.shr_registry.proofs.retiring.make_idle.Goals as goal

@@ -1,3 +1,4 @@
+-- SPDX-License-Identifier: GPL-2.0-only
 use Rattle.shr_registry.proofs.Common.{sym, ap, subst, ◌∙◌, arith, Core, Seated, Shape, IsOfPool, view_of, shape_of, pool_of}
 use Rattle.shr_registry.proofs.Searches.{shown_phase, free_here, free_next, free_none, more_loaded}
 use Rattle.shr_registry.proofs.searching.free_id.Goals as goal

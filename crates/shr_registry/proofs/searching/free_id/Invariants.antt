@@ -1,3 +1,4 @@
+-- SPDX-License-Identifier: GPL-2.0-only
 use Rattle.shr_registry.proofs.Common.{◌≡◌, ◌-◌, lowest_idle, view_of, shape_of, pool_of, Loads, lowest_free}
 use Rattle.shr_registry.proofs.searching.free_id.Given as goal
 

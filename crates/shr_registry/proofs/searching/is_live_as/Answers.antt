@@ -1,3 +1,4 @@
+-- SPDX-License-Identifier: GPL-2.0-only
 use Rattle.shr_registry.proofs.Common.{◌∙◌, ap, view_of, shape_of, pool_of}
 use Rattle.shr_registry.proofs.Searches.{loads_none, live_is, shown_phase, shown_decl, more_loaded}
 use Rattle.shr_registry.proofs.searching.is_live_as.Goals as goal

@@ -1,3 +1,4 @@
+-- SPDX-License-Identifier: GPL-2.0-only
 use Rattle.shr_core.specs.Seats.{view_of}
 use Rattle.shr_registry.proofs.Searches.{loads_then}
 use Rattle.shr_registry.proofs.searching.live_id.Goals.{else-own-shape-via-then-own-shape+else-is_live_as, else-own-shape-via-else-own-shape}

@@ -1,3 +1,4 @@
+-- SPDX-License-Identifier: GPL-2.0-only
 use Rattle.shr_registry.proofs.Common.{◌≡◌, ℕ, List, false, refl, sym, ap, subst, ◌∙◌, arith, ◌&&◌, ◌==◌, PoolEntry, is_live, decl_of, Core, Shape, view_of, shape_of, pool_of}
 use Rattle.shr_registry.proofs.Searches.{loads_none, loads_then, none_next}
 use Rattle.shr_registry.proofs.Meetings.{journal_still}

@@ -1,3 +1,4 @@
+-- SPDX-License-Identifier: GPL-2.0-only
 use Rattle.shr_registry.proofs.Common.{◌≡◌, false, view_of, shape_of, pool_of, Loads, is_live_below}
 use Rattle.shr_registry.proofs.searching.other_live_id.Given as goal
 

@@ -1,3 +1,4 @@
+-- SPDX-License-Identifier: GPL-2.0-only
 use Rattle.shr_registry.proofs.Common.{List, refl, ap, subst, ◌∙◌, Object, Core, Shape, view_of, shape_of, AreDrained, Emptied, EmptyStops}
 use Rattle.shr_registry.proofs.Endings.{freed, half}
 use Rattle.shr_registry.proofs.unregistering.unregister.Goals as goal

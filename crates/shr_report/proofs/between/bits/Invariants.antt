@@ -1,3 +1,4 @@
+-- SPDX-License-Identifier: GPL-2.0-only
 use Rattle.shr_report.proofs.Common.{take, flat_map, AllByRecursion, Prints, IsMapNumbered, bit_line}
 use Rattle.shr_report.proofs.between.bits.Given as goal
 

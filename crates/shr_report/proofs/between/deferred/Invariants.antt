@@ -1,3 +1,4 @@
+-- SPDX-License-Identifier: GPL-2.0-only
 use Rattle.shr_report.proofs.Common.{take, flat_map, Prints, deferred_line}
 use Rattle.shr_report.proofs.between.deferred.Given as goal
 

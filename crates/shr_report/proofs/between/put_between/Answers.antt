@@ -1,3 +1,4 @@
+-- SPDX-License-Identifier: GPL-2.0-only
 use Rattle.shr_report.proofs.Common.{◌++◌, flat_map, prints_both, units_lines, bit_line, deferred_line, pool_deferred_line}
 use Rattle.shr_report.proofs.between.put_between.Goals as goal
 

@@ -1,3 +1,4 @@
+-- SPDX-License-Identifier: GPL-2.0-only
 use Rattle.shr_report.proofs.Common.{length, flat_map, AllByRecursion, PrintsTo, IsObjectNumbered, item_line}
 use Rattle.shr_report.proofs.entries.items.Given as goal
 

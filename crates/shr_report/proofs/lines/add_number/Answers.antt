@@ -1,3 +1,4 @@
+-- SPDX-License-Identifier: GPL-2.0-only
 use Rattle.shr_report.proofs.Common.{◌∷◌, [], ap, decimal, prints_both, prints_as, numeral}
 use Rattle.shr_report.proofs.Numerals.{decimal_is}
 use Rattle.shr_report.proofs.lines.add_number.Goals as goal

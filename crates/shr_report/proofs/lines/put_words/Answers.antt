@@ -1,3 +1,4 @@
+-- SPDX-License-Identifier: GPL-2.0-only
 use Rattle.shr_outside.proofs.Printing.{prints_both, prints_as}
 use Rattle.shr_report.proofs.Spaced.{words_more}
 use Rattle.shr_report.proofs.lines.put_words.Goals as goal

@@ -1,3 +1,4 @@
+-- SPDX-License-Identifier: GPL-2.0-only
 use Rattle.shr_report.proofs.Common.{take, Prints, spaced, word_texts}
 use Rattle.shr_report.proofs.lines.put_words.Given as goal
 

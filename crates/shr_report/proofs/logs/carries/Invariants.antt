@@ -1,3 +1,4 @@
+-- SPDX-License-Identifier: GPL-2.0-only
 use Rattle.shr_report.proofs.Common.{take, flat_map, AllByRecursion, Prints, IsCarryNumbered, carry_line}
 use Rattle.shr_report.proofs.logs.carries.Given as goal
 

@@ -1,3 +1,4 @@
+-- SPDX-License-Identifier: GPL-2.0-only
 use Rattle.shr_report.proofs.Common.{take, flat_map, AllByRecursion, Prints, IsIsolationNumbered, isolation_line}
 use Rattle.shr_report.proofs.logs.isolations.Given as goal
 

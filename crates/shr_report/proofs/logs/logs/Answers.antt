@@ -1,3 +1,4 @@
+-- SPDX-License-Identifier: GPL-2.0-only
 use Rattle.shr_report.proofs.Common.{◌≡◌, ◌+◌, ◌-◌, ◌++◌, drop, flat_map, arith, take_rest, take_while, prefix_len, prints_both, numbered, IsWalkNumbered, IsCarryNumbered, IsPlainNumbered, IsIsolationNumbered, logs_from, walk_lines, carry_line, plain_lines, isolation_line, is_walk_of, is_carry_of, is_plain_of, is_isolation_of}
 use Rattle.shr_report.proofs.Ranges.{each_joined}
 use Rattle.shr_report.proofs.logs.logs.Goals as goal

@@ -1,3 +1,4 @@
+-- SPDX-License-Identifier: GPL-2.0-only
 use Rattle.shr_report.proofs.Common.{◌+◌, drop, take, AllByRecursion, PrintsTo, IsPlainNumbered, numbered, plain_lines}
 use Rattle.shr_report.proofs.logs.plain.Given as goal
 

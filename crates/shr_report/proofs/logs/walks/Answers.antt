@@ -1,3 +1,4 @@
+-- SPDX-License-Identifier: GPL-2.0-only
 use Rattle.shr_report.proofs.Common.{◌+◌, add_assoc, sym, prints_part, prints_all, walk_lines, IsWalkNumbered}
 use Rattle.shr_report.proofs.Ranges.{each_more, each_done}
 use Rattle.shr_report.proofs.Numbered.{numbered_next, numbered_end}

@@ -1,3 +1,4 @@
+-- SPDX-License-Identifier: GPL-2.0-only
 use Rattle.shr_report.proofs.Common.{◌+◌, drop, take, AllByRecursion, PrintsTo, IsWalkNumbered, numbered, walk_lines}
 use Rattle.shr_report.proofs.logs.walks.Given as goal
 

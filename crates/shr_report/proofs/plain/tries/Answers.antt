@@ -1,3 +1,4 @@
+-- SPDX-License-Identifier: GPL-2.0-only
 use Rattle.shr_report.proofs.Common.{get_or, refl, prints_part, prints_all, Empty, IsTryNumbered, pass_line}
 use Rattle.shr_report.proofs.Numbered.{numbered_next_at, numbered_end}
 use Rattle.shr_report.proofs.Ranges.{each_more_at, each_done}

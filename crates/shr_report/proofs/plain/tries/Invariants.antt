@@ -1,3 +1,4 @@
+-- SPDX-License-Identifier: GPL-2.0-only
 use Rattle.shr_report.proofs.Common.{drop, take, AllByRecursion, PrintsTo, IsTryNumbered, numbered, pass_line}
 use Rattle.shr_report.proofs.plain.tries.Given as goal
 

@@ -1,3 +1,4 @@
+-- SPDX-License-Identifier: GPL-2.0-only
 use Rattle.shr_report.proofs.Common.{take, flat_map, AllByRecursion, Prints, IsListNumbered, place_lines}
 use Rattle.shr_report.proofs.printers.put_places.Given as goal
 

@@ -1,3 +1,4 @@
+-- SPDX-License-Identifier: GPL-2.0-only
 use Rattle.shr_report.proofs.Common.{◌≡◌, take, length, sum_by}
 use Rattle.shr_report.proofs.text.count_replies.Given as goal
 

@@ -1,3 +1,4 @@
+-- SPDX-License-Identifier: GPL-2.0-only
 use Rattle.shr_report.proofs.Common.{[], ◌∷◌, ◌++◌, codes, prints_both, line, numeral, numbered, numbered_group_line, numbered_cache_line, units_name_line}
 use Rattle.shr_report.proofs.text.head.Goals as goal
 

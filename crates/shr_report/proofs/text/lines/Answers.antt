@@ -1,3 +1,4 @@
+-- SPDX-License-Identifier: GPL-2.0-only
 use Rattle.shr_report.proofs.Common.{◌++◌, flat_map, prints_as, prints_both, numbered, worker_lines, place_lines, units_lines, bit_line, deferred_line, pool_deferred_line, use_line, lookups_line, end_lines}
 use Rattle.shr_report.specs.Body.{body_lines}
 use Rattle.shr_laws.specs.Text.{text, head_lines, journal_lines}

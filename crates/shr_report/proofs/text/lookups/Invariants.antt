@@ -1,3 +1,4 @@
+-- SPDX-License-Identifier: GPL-2.0-only
 use Rattle.shr_report.proofs.Common.{drop, PrintsTo, numbered, lookups_line}
 use Rattle.shr_report.proofs.text.lookups.Given as goal
 

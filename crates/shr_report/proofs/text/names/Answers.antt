@@ -1,3 +1,4 @@
+-- SPDX-License-Identifier: GPL-2.0-only
 use Rattle.shr_report.proofs.Common.{refl, ◌∷◌, [], prints_part, prints_all, line, numeral}
 use Rattle.shr_report.proofs.Numbered.{numbered_next, numbered_end}
 use Rattle.shr_report.proofs.text.names.Goals as goal

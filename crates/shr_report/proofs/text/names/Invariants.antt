@@ -1,3 +1,4 @@
+-- SPDX-License-Identifier: GPL-2.0-only
 use Rattle.shr_report.proofs.Common.{drop, ◌∷◌, [], PrintsTo, line, numbered, numeral}
 use Rattle.shr_report.proofs.text.names.Given as goal
 

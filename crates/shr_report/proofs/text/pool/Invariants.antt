@@ -1,3 +1,4 @@
+-- SPDX-License-Identifier: GPL-2.0-only
 use Rattle.shr_report.proofs.Common.{drop, PrintsTo, numbered, pool_entry_line}
 use Rattle.shr_report.proofs.text.pool.Given as goal
 

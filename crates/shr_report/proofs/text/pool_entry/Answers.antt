@@ -1,3 +1,4 @@
+-- SPDX-License-Identifier: GPL-2.0-only
 use Rattle.shr_report.proofs.text.pool_entry.Goals as goal
 
 pub returns-in-Registered : goal.returns-in-Registered

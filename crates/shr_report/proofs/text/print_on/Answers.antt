@@ -1,3 +1,4 @@
+-- SPDX-License-Identifier: GPL-2.0-only
 use Rattle.shr_report.proofs.Common.{[], sym, append-nil, text}
 use Rattle.shr_report.proofs.text.print_on.Goals as goal
 

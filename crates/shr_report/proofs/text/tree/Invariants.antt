@@ -1,3 +1,4 @@
+-- SPDX-License-Identifier: GPL-2.0-only
 use Rattle.shr_report.proofs.Common.{drop, PrintsTo, numbered, tree_line}
 use Rattle.shr_report.proofs.text.tree.Given as goal
 

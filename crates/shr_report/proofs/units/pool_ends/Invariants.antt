@@ -1,3 +1,4 @@
+-- SPDX-License-Identifier: GPL-2.0-only
 use Rattle.shr_report.proofs.Common.{take, flat_map, AllByRecursion, Prints, AreUnitsNumbered, units_lines}
 use Rattle.shr_report.proofs.units.pool_ends.Given as goal
 

@@ -1,3 +1,4 @@
+-- SPDX-License-Identifier: GPL-2.0-only
 use Rattle.shr_report.proofs.Common.{get_or, take, flat_map, prints_both, PlaceAmount, pool_deferred_line}
 use Rattle.shr_report.proofs.Joined.{lines_more}
 use Rattle.shr_report.proofs.units.pool_words.Goals as goal

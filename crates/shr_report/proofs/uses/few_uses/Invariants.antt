@@ -1,3 +1,4 @@
+-- SPDX-License-Identifier: GPL-2.0-only
 use Rattle.shr_report.proofs.Common.{◌≡◌, ◌≤◌, ◌*◌, drop, length, flat_map, AllByRecursion, use_line, IsUseNumbered}
 use Rattle.shr_report.proofs.uses.few_uses.Given as goal
 

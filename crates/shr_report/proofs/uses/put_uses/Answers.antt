@@ -1,3 +1,4 @@
+-- SPDX-License-Identifier: GPL-2.0-only
 use Rattle.shr_report.proofs.Common.{◌≡◌, ◌+◌, ◌-◌, arith, prints_part, use_line, IsUseNumbered}
 use Rattle.shr_report.proofs.Ranges.{each_joined}
 use Rattle.shr_report.proofs.Joined.{lines_next}

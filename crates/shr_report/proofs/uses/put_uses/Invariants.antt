@@ -1,3 +1,4 @@
+-- SPDX-License-Identifier: GPL-2.0-only
 use Rattle.shr_report.proofs.Common.{◌≤◌, ◌-◌, take, drop, length, flat_map, AllByRecursion, PrintsTo, use_line, IsUseNumbered}
 use Rattle.shr_report.proofs.uses.put_uses.Given as goal
 

@@ -1,3 +1,4 @@
+-- SPDX-License-Identifier: GPL-2.0-only
 use Rattle.std.proofs.Common.{append_assoc}
 use Rattle.shr_report.proofs.walks.add_outcome.Goals as goal
 

@@ -1,3 +1,4 @@
+-- SPDX-License-Identifier: GPL-2.0-only
 use Rattle.shr_report.proofs.Common.{take, flat_map, AllByRecursion, Prints, IsAttemptNumbered, attempt_line}
 use Rattle.shr_report.proofs.walks.attempts.Given as goal
 

@@ -1,3 +1,4 @@
+-- SPDX-License-Identifier: GPL-2.0-only
 use Rattle.shr_report.proofs.Common.{◌≡◌, ◌+◌, ◌-◌, arith, get_or, refl, take_rest, prints_part, prints_all, map_line, IsSeenNumbered, IsAttemptNumbered, length-drop}
 use Rattle.shr_report.proofs.Ranges.{each_joined, each_rest, each_more_at}
 use Rattle.shr_report.proofs.Joined.{units_next, units_end}

@@ -1,3 +1,4 @@
+-- SPDX-License-Identifier: GPL-2.0-only
 use Rattle.shr_report.proofs.Common.{◌≤◌, drop, take, length, AllByRecursion, PrintsTo, IsSeenNumbered, IsAttemptNumbered, map_lines}
 use Rattle.shr_report.proofs.walks.units.Given as goal
 

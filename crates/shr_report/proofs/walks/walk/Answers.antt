@@ -1,3 +1,4 @@
+-- SPDX-License-Identifier: GPL-2.0-only
 use Rattle.std.proofs.Common.{rules}
 use Rattle.shr_report.proofs.walks.walk.Goals as goal
 

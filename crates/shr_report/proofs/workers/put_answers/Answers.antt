@@ -1,3 +1,4 @@
+-- SPDX-License-Identifier: GPL-2.0-only
 use Rattle.shr_report.proofs.Common.{◌+◌, ◌++◌, refl, sym, subst, arith, prints_part, prints_all, reply_line, found_lines, IsAnsweredNumbered, logs_from}
 use Rattle.shr_report.proofs.Ranges.{each_more, each_done, AreLeft, left_first, left_next, part_numbers}
 use Rattle.shr_report.proofs.Joined.{answers_next, answers_end}

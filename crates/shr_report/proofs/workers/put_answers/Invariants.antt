@@ -1,3 +1,4 @@
+-- SPDX-License-Identifier: GPL-2.0-only
 use Rattle.shr_report.proofs.Common.{drop, take, AllByRecursion, PrintsTo, IsAnsweredNumbered, logs_from, AreNumberedTo, logs_of, IsPartWell, IsPrintedWithin, answer_lines}
 use Rattle.shr_report.proofs.Ranges.{AreLeft}
 use Rattle.shr_report.proofs.workers.put_answers.Given as goal

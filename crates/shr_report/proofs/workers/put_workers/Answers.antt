@@ -1,3 +1,4 @@
+-- SPDX-License-Identifier: GPL-2.0-only
 use Rattle.shr_report.proofs.Common.{refl, prints_part, prints_all, IsPartNumbered, worker_lines, slice_get_read}
 use Rattle.shr_report.proofs.Ranges.{each_more, each_done}
 use Rattle.shr_report.proofs.Numbered.{numbered_next, numbered_end}

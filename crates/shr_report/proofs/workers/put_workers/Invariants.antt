@@ -1,3 +1,4 @@
+-- SPDX-License-Identifier: GPL-2.0-only
 use Rattle.shr_report.proofs.Common.{drop, take, AllByRecursion, PrintsTo, IsPartNumbered, ArePartsWell, numbered, worker_lines}
 use Rattle.shr_report.proofs.workers.put_workers.Given as goal
 

@@ -1,3 +1,4 @@
+-- SPDX-License-Identifier: GPL-2.0-only
 use Rattle.shr_run.proofs.Common.{◌≡◌, List, [], ◌∷◌, length, refl, sym, ◌∙◌, arith, held_by, WorkerResult, WorkerLog, log_of}
 use Rattle.shr_run.proofs.Parting.{own_at_end, joined_all, first_joined, still_joined, still_parted, still_whole, still_at_end, still_logged}
 use Rattle.shr_run.proofs.joining.join_all.Goals as goal

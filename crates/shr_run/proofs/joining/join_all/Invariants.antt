@@ -1,3 +1,4 @@
+-- SPDX-License-Identifier: GPL-2.0-only
 use Rattle.shr_run.proofs.Common.{◌≡◌, ◌++◌, map, All, IsTrue, AreFirst, held_by, WorkerResult, with_workers, IsAtEnd, log_of, last_of, firsts_of}
 use Rattle.shr_run.proofs.Parting.{AreCounted}
 use Rattle.shr_run.proofs.joining.join_all.Given as goal

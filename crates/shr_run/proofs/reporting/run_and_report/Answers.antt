@@ -1,3 +1,4 @@
+-- SPDX-License-Identifier: GPL-2.0-only
 use Rattle.shr_run.proofs.Common.{◌≡◌, List, subst, IfOk, Ok, Err, Result, Ends, WorkerLog, AreEnds}
 use Rattle.shr_base.specs.declared.memory.Memory.{Memory}
 use Rattle.shr_base.specs.declared.scripts.Script.{Script}

@@ -1,3 +1,4 @@
+-- SPDX-License-Identifier: GPL-2.0-only
 use Rattle.shr_run.proofs.Common.{sym, ap, subst, ◌∙◌, WorkerLog, AreEnds, List, view_of}
 use Rattle.shr_walk.specs.declared.seats.Seats.{Seats}
 use Rattle.shr_run.proofs.Ending.{all_tasks, all_done, swept_at_end, MayEnd, may_end, ends_of}

@@ -1,3 +1,4 @@
+-- SPDX-License-Identifier: GPL-2.0-only
 use Rattle.shr_run.proofs.Common.{ℕ, ◌∷◌, [], List, length, length-append, sym, ap, subst, arith, view_of, Starting, CrewSeats, IsTaskOf, AreTasks, none-some}
 use Rattle.shr_run.proofs.Splitting.{workers_few, split_more, new_task, tasks_more}
 use Rattle.shr_run.proofs.starting.split_all.Goals as goal

@@ -1,3 +1,4 @@
+-- SPDX-License-Identifier: GPL-2.0-only
 use Rattle.shr_run.proofs.Common.{◌≡◌, length, view_of, AreSplitOff, AreTasks}
 use Rattle.shr_run.proofs.starting.split_all.Given as goal
 

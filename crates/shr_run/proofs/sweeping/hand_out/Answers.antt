@@ -1,3 +1,4 @@
+-- SPDX-License-Identifier: GPL-2.0-only
 use Rattle.shr_run.proofs.Common.{◌≡◌, ◌∙◌, ◌++◌, List, sym, ap, subst, length, map, refl, All, IsTrue, All-nil, WorkerResult, Helping, worker_of, HasPass}
 use Rattle.shr_pool.specs.Passes as passes
 use Rattle.shr_run.proofs.Passing.{moved_one, none_handed_out, more_handed_out, passed_more, whole_more}

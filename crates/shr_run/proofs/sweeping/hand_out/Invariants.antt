@@ -1,3 +1,4 @@
+-- SPDX-License-Identifier: GPL-2.0-only
 use Rattle.shr_run.proofs.Common.{◌≡◌, ◌++◌, length, map, All, IsTrue, WorkerResult, worker_of, HasPass, handed_out}
 use Rattle.shr_pool.specs.Passes as passes
 use Rattle.shr_run.proofs.sweeping.hand_out.Given as goal

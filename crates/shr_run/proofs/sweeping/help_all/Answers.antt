@@ -1,3 +1,4 @@
+-- SPDX-License-Identifier: GPL-2.0-only
 use Rattle.shr_run.proofs.Common.{◌≡◌, sym, subst, ◌∙◌, slice_get_within, Helped, Helping, HasHelpedOut, rules, get_or_from_slice_get}
 use Rattle.shr_run.proofs.sweeping.help_all.Goals as goal
 

@@ -1,3 +1,4 @@
+-- SPDX-License-Identifier: GPL-2.0-only
 use Rattle.shr_run.proofs.Common.{◌≡◌, ◌++◌, map, All, helped_of, IsPassBack}
 use Rattle.shr_pool.specs.Passes as passes
 use Rattle.shr_run.proofs.Passing.{IsJoining}

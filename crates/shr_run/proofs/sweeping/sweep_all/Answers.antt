@@ -1,3 +1,4 @@
+-- SPDX-License-Identifier: GPL-2.0-only
 use Rattle.shr_run.proofs.Common.{◌≡◌, ℕ, ◌∙◌, ◌+◌, ◌<◌, List, map, sym, ap, length, arith, Result, Ok, Err, IfOk, flat_map, length-map, PassView, queue_line, parents_of, WorkerResult, Helped, helped_of, worker_of, popped_of, AreOnce, HaveSwept, Global, OnOk, Vec, vec_len}
 use Rattle.shr_pool.specs.Passes as passes
 use Rattle.shr_run.proofs.Splitting.{workers_few}

@@ -1,3 +1,4 @@
+-- SPDX-License-Identifier: GPL-2.0-only
 use Rattle.shr_run.proofs.Common.{◌≡◌, sym, subst, ◌∙◌, slice_get_within, Starting, WorkerResult, rules, get_or_from_slice_get}
 use Rattle.shr_run.specs.Tasks.{HasRun}
 use Rattle.shr_run.proofs.working.run_all.Goals as goal

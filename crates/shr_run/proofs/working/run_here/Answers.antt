@@ -1,3 +1,4 @@
+-- SPDX-License-Identifier: GPL-2.0-only
 use Rattle.shr_run.proofs.Common.{List, arith, sym, subst, All, Starting}
 use Rattle.std.proofs.lemmas.List.Elements.{All-tail}
 use Rattle.shr_worker.specs.Tasks.{IsTask}

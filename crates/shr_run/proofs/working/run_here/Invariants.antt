@@ -1,3 +1,4 @@
+-- SPDX-License-Identifier: GPL-2.0-only
 use Rattle.shr_run.proofs.Common.{All, Starting}
 use Rattle.shr_worker.specs.Tasks.{IsTask}
 use Rattle.shr_run.proofs.Here.{HasRunFront}

@@ -1,3 +1,4 @@
+-- SPDX-License-Identifier: GPL-2.0-only
 use Rattle.std.proofs.Common.{◌≡◌, ◌∙◌, ℕ, List, ◌++◌, Option, Some, None, Bor, ap}
 use Rattle.std.specs.Prelude.{◌≢◌, IfSome, MatchOption, codes}
 use Rattle.std.proofs.lemmas.Slice.Eq.{strip_prefix_is}

@@ -1,3 +1,4 @@
+-- SPDX-License-Identifier: GPL-2.0-only
 use Rattle.shr_script.proofs.Common.{said_state, drafted, words_left}
 use Rattle.shr_model.specs.PieceParts.{left}
 use Rattle.shr_script.proofs.PutLaws.{put_is}

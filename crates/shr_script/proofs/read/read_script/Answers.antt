@@ -1,3 +1,4 @@
+-- SPDX-License-Identifier: GPL-2.0-only
 use Rattle.shr_script.proofs.ReadLaws.{is_read, only_read, only_failed, is_cause, told_read, told_failed}
 use Rattle.shr_script.proofs.GrowthLaws.{short_script}
 use Rattle.shr_script.proofs.read.read_script.Goals as goal

@@ -1,3 +1,4 @@
+-- SPDX-License-Identifier: GPL-2.0-only
 use Rattle.shr_script.proofs.Common.{refl, sym, subst, ◌≡◌, option_map, arith, ◌≤◌, State, start, said_state, drafted, run_of}
 use Rattle.shr_model.specs.PieceParts.{left}
 use Rattle.shr_script.proofs.RunLaws.{run_ended, run_goes_on, run_out}

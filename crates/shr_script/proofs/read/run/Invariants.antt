@@ -1,3 +1,4 @@
+-- SPDX-License-Identifier: GPL-2.0-only
 use Rattle.shr_script.proofs.Common.{◌≡◌, ◌≤◌, length, option_map, said_state, drafted, run_from, run_of, left}
 use Rattle.shr_script.proofs.GrowthLaws.{Few, said_lines}
 use Rattle.shr_script.proofs.read.run.Given as goal

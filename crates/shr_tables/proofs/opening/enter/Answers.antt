@@ -1,3 +1,4 @@
+-- SPDX-License-Identifier: GPL-2.0-only
 use Rattle.shr_core.specs.Seats.{view_of}
 use Rattle.shr_tables.proofs.First.{none_live, one_free, next_entered}
 use Rattle.shr_tables.proofs.opening.enter.Goals as goal

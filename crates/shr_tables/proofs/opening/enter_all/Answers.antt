@@ -1,3 +1,4 @@
+-- SPDX-License-Identifier: GPL-2.0-only
 use Rattle.shr_tables.proofs.Common.{◌≡◌, ◌<◌, ◌+◌, ℕ, ap, sym, refl, length, get_or, List, true, false, ◌∙◌, arith, Some, slice_get, nat_tests, CacheDecl, opener, view_of, content_of, within_of_valid, shape_of}
 use Rattle.shr_charge.proofs.Listing.{get_here}
 use Rattle.shr_core.specs.declared.table.Core.{Core}

@@ -1,3 +1,4 @@
+-- SPDX-License-Identifier: GPL-2.0-only
 use Rattle.shr_tables.proofs.Common.{◌≡◌, [], length, take, opener, view_of, AreEntered, HasEntered}
 use Rattle.shr_core.specs.Gained.{IsIdle}
 use Rattle.shr_seats.specs.Standing.{at_first}

@@ -1,3 +1,4 @@
+-- SPDX-License-Identifier: GPL-2.0-only
 use Rattle.shr_tables.proofs.Common.{content_of, within_of_valid}
 use Rattle.shr_tables.proofs.Pooling.{all_settings}
 use Rattle.shr_tables.proofs.opening.open_pools.Goals as goal

@@ -1,3 +1,4 @@
+-- SPDX-License-Identifier: GPL-2.0-only
 use Rattle.shr_tables.proofs.Common.{ap, sym, length, subst, view_of, first_view, AreEntered, opener}
 use Rattle.shr_core.specs.declared.table.Core.{Core}
 use Rattle.shr_core.specs.Gained.{IsIdle}

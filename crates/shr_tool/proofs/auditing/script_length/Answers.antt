@@ -1,3 +1,4 @@
+-- SPDX-License-Identifier: GPL-2.0-only
 use Rattle.std.proofs.Common.{◌≡◌, ◌∙◌, ◌+◌, codes, sym, subst, arith}
 use lib.Pointwise.{bytes_decides}
 use Rattle.shr_tool.proofs.Splits.{IsReading, between, split_at_end, past_line, same_line, none_read}

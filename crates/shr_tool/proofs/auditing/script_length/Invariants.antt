@@ -1,3 +1,4 @@
+-- SPDX-License-Identifier: GPL-2.0-only
 use Rattle.shr_tool.proofs.Splits.{IsReading}
 use Rattle.shr_tool.proofs.auditing.script_length.Given as goal
 

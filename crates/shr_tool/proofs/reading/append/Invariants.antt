@@ -1,3 +1,4 @@
+-- SPDX-License-Identifier: GPL-2.0-only
 use Rattle.std.proofs.Common.{◌≡◌, ◌++◌, length}
 use Rattle.shr_tool.proofs.reading.append.Given as goal
 

@@ -1,3 +1,4 @@
+-- SPDX-License-Identifier: GPL-2.0-only
 use Rattle.std.proofs.Common.{◌++◌, length-append, take, length-take, arith}
 use Rattle.shr_tool.proofs.Known.{consumes_kept, consumes_more}
 use Rattle.shr_tool.proofs.reading.read_all.Goals as goal

@@ -1,3 +1,4 @@
+-- SPDX-License-Identifier: GPL-2.0-only
 use Rattle.shr_tool.proofs.Common.{◌≤◌, ◌+◌, ◌-◌, length, Consumes}
 use Rattle.shr_tool.proofs.reading.read_all.Given as goal
 

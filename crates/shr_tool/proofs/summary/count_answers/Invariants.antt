@@ -1,3 +1,4 @@
+-- SPDX-License-Identifier: GPL-2.0-only
 use Rattle.shr_tool.proofs.Common.{◌≡◌, take, length, sum_by}
 use Rattle.shr_tool.proofs.summary.count_answers.Given as goal
 

@@ -1,3 +1,4 @@
+-- SPDX-License-Identifier: GPL-2.0-only
 use Rattle.shr_tool.proofs.GeneratedPuts.{is_summary}
 use Rattle.shr_tool.proofs.summary.run_generated.Goals as goal
 

@@ -1,3 +1,4 @@
+-- SPDX-License-Identifier: GPL-2.0-only
 use Rattle.shr_script.specs.Content.{content_of, spell}
 use Rattle.shr_tool.proofs.Answering.{answers_spelling, answers_refusal, traced_spelling, traced_refusal}
 use Rattle.shr_tool.proofs.top.answer.Goals as goal

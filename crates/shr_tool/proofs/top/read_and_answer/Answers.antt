@@ -1,3 +1,4 @@
+-- SPDX-License-Identifier: GPL-2.0-only
 use Rattle.shr_tool.proofs.Answering.{run_gives, traced_gives}
 use Rattle.shr_tool.proofs.top.read_and_answer.Goals as goal
 

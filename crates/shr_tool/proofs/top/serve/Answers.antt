@@ -1,3 +1,4 @@
+-- SPDX-License-Identifier: GPL-2.0-only
 use Rattle.shr_script.specs.Content.{content_of, spell}
 use Rattle.shr_laws.specs.Text.{text}
 use Rattle.shr_tool.specs.Top.{report_text}

@@ -1,3 +1,4 @@
+-- SPDX-License-Identifier: GPL-2.0-only
 use Rattle.std.proofs.Common.{map, refl, subst}
 use Rattle.std.specs.Prelude.{string_bytes, Some, String}
 use Rattle.std.proofs.Common.{List, Global}

@@ -1,3 +1,4 @@
+-- SPDX-License-Identifier: GPL-2.0-only
 use Rattle.shr_model.proofs.GroupsOrder.{IsAtOrAbove-refl, IsAtOrAbove-trans, IsAtOrAbove-antisym, IsAtOrAbove-root}
 use Rattle.shr_tree.proofs.laws.at_or_above_is_an_order.Goals as goal
 

@@ -1,3 +1,4 @@
+-- SPDX-License-Identifier: GPL-2.0-only
 use Rattle.shr_model.proofs.GroupsOrder.{IsAtOrAbove-le}
 use Rattle.shr_tree.proofs.laws.numbers_rise_downwards.Goals as goal
 

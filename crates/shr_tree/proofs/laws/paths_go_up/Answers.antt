@@ -1,3 +1,4 @@
+-- SPDX-License-Identifier: GPL-2.0-only
 use Rattle.shr_model.proofs.GroupsLaws.{path_of-root, path_of-below}
 use Rattle.shr_tree.proofs.laws.paths_go_up.Goals as goal
 

@@ -1,3 +1,4 @@
+-- SPDX-License-Identifier: GPL-2.0-only
 use Rattle.shr_core.specs.Seats.{view_of}
 use Rattle.shr_trials.proofs.Calming.{calm_by, keeps_call}
 use Rattle.shr_trials.proofs.calls.put.Goals as goal

@@ -1,3 +1,4 @@
+-- SPDX-License-Identifier: GPL-2.0-only
 use Rattle.shr_core.specs.Seats.{shape_of, view_of}
 use Rattle.shr_trials.proofs.Calming.{calm_by, keeps_unregister}
 use Rattle.shr_trials.proofs.calls.unregister.Goals as goal

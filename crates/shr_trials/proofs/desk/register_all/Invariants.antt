@@ -1,3 +1,4 @@
+-- SPDX-License-Identifier: GPL-2.0-only
 use Rattle.shr_trials.proofs.Common.{StaysCalm}
 use Rattle.shr_trials.proofs.desk.register_all.Given as goal
 

@@ -1,3 +1,4 @@
+-- SPDX-License-Identifier: GPL-2.0-only
 use Rattle.shr_trials.proofs.Common.{StaysCalm}
 use Rattle.shr_trials.proofs.threads.wait_for.Given as goal
 

@@ -1,3 +1,4 @@
+-- SPDX-License-Identifier: GPL-2.0-only
 use Rattle.shr_walk.proofs.Common.{ℕ, ◌+◌, ◌<◌, List, length, get_or, refl, sym, ap, subst, ◌∙◌, inl, inr, arith, Contains, IsTree, groups_in, shape_of, walk_of, IsBalanceCut, OneGives, all_groups, walk_over, Shared, Contains-get_or}
 use Rattle.shr_walk.proofs.Acted.{one_by, same_then}
 use Rattle.shr_walk.proofs.Doing.{does_none}

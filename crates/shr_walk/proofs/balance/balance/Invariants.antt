@@ -1,3 +1,4 @@
+-- SPDX-License-Identifier: GPL-2.0-only
 use Rattle.shr_walk.proofs.Common.{◌≡◌, ◌*◌, ◌^◌, ◌≤◌, length, IsSame, walk_of, all_groups}
 use Rattle.shr_walk.proofs.Balancing.{IsBalancedTo}
 use Rattle.shr_walk.proofs.balance.balance.Given as goal

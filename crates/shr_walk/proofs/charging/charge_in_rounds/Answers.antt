@@ -1,3 +1,4 @@
+-- SPDX-License-Identifier: GPL-2.0-only
 use Rattle.shr_walk.proofs.ChargingCommon.{◌-◌, ◌≤◌, sym, subst, arith, ChargeAnswer, depth_of, WorkerState, Shared, same_for, same_then, AllMade, FirstMade, RefusedThere, WalksFirst, due_in, IsChargeTried, Refusal}
 use Rattle.shr_walk.proofs.Calling.{charges_few, visited_calls}
 use Rattle.shr_walk.proofs.Tried.{HasTried, tried_first, tried_more, tried_cut, short_gives, none_gives}

@@ -1,3 +1,4 @@
+-- SPDX-License-Identifier: GPL-2.0-only
 use Rattle.shr_walk.proofs.ChargingCommon.{◌≤◌, depth_of, IsSame, RefusedThere}
 use Rattle.shr_walk.proofs.Tried.{HasTried}
 use Rattle.shr_walk.proofs.charging.charge_in_rounds.Given as goal

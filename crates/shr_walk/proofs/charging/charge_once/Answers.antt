@@ -1,3 +1,4 @@
+-- SPDX-License-Identifier: GPL-2.0-only
 use Rattle.shr_walk.proofs.ChargingCommon.{ℕ, List, ap, sym, subst, ◌∙◌, arith, depth_of, uses_of, tree_of, Acting, Charges, state_of, IsChargeTried}
 use Rattle.shr_charge.specs.declared.table.Charge.{Charge}
 use Rattle.shr_walk.proofs.Noting.{few_ops, tried_once}

@@ -1,3 +1,4 @@
+-- SPDX-License-Identifier: GPL-2.0-only
 use Rattle.shr_walk.proofs.Common.{◌≡◌, ◌∷◌, [], refl, ap, ◌∙◌, arith, get_or, Attempt, freed_in}
 use Rattle.shr_walk.proofs.Freed.{freed_step, freed_low}
 use Rattle.shr_walk.proofs.groups.sum_freed.Goals as goal

@@ -1,3 +1,4 @@
+-- SPDX-License-Identifier: GPL-2.0-only
 use Rattle.shr_walk.proofs.Mapping.{bits_done, bit_next}
 use Rattle.shr_walk.proofs.maps.next_bit.Goals as goal
 

@@ -1,3 +1,4 @@
+-- SPDX-License-Identifier: GPL-2.0-only
 use Rattle.std.proofs.Common.{◌≡◌, length, refl, subst, arith}
 use Rattle.shr_walk.proofs.Opened.{IsDeepestTo, deepest_first, deepest_all}
 use Rattle.shr_walk.proofs.opening.deepest.Goals as goal

@@ -1,3 +1,4 @@
+-- SPDX-License-Identifier: GPL-2.0-only
 use Rattle.shr_walk.proofs.Common.{arith, content_of, within_of_valid}
 use Rattle.shr_walk.proofs.opening.shape_of.Goals as goal
 

@@ -1,3 +1,4 @@
+-- SPDX-License-Identifier: GPL-2.0-only
 use Rattle.shr_walk.proofs.Common.{ℕ, ◌++◌, ◌∷◌, [], ap, sym, subst, refl, take, ◌∙◌, take_at_read, GroupDecl, root_path, HaveParentsBefore}
 use Rattle.shr_walk.proofs.Opened.{group_more, no_refusal, only_memory}
 use Rattle.shr_walk.proofs.opening.tree_of.Goals as goal

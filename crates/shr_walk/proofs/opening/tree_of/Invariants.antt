@@ -1,3 +1,4 @@
+-- SPDX-License-Identifier: GPL-2.0-only
 use Rattle.shr_walk.proofs.Common.{◌≡◌, take, groups_of}
 use Rattle.shr_walk.proofs.opening.tree_of.Given as goal
 

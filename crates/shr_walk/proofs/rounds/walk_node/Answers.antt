@@ -1,3 +1,4 @@
+-- SPDX-License-Identifier: GPL-2.0-only
 use Rattle.shr_walk.proofs.ChargingCommon.{ℕ, ◌+◌, ◌<◌, List, ◌++◌, ◌∷◌, [], false, take, drop, get_or, refl, sym, subst, ◌∙◌, arith, Job, job, groups_in, shape_of, Shared, same_then, jobs_on, Visit, WalksAll, WalksFirst, All-get_or, same_none}
 use Rattle.shr_walk.proofs.ChargeRanging.{on_more, on_parted}
 use Rattle.shr_walk.proofs.Visiting.{none_walked, all_more, first_cut, visited_same}

@@ -1,3 +1,4 @@
+-- SPDX-License-Identifier: GPL-2.0-only
 use Rattle.shr_walk.proofs.ChargingCommon.{◌≡◌, List, take, IsSame, jobs_on, Visit, WalksAll}
 use Rattle.shr_walk.proofs.rounds.walk_node.Given as goal
 

@@ -1,3 +1,4 @@
+-- SPDX-License-Identifier: GPL-2.0-only
 use Rattle.shr_walk.proofs.ChargingCommon.{List, IsSame, Visit, WalksAll}
 use Rattle.shr_walk.proofs.ChargeRanging.{jobs_to}
 use Rattle.shr_walk.proofs.rounds.walk_round.Given as goal

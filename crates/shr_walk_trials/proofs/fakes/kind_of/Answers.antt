@@ -1,3 +1,4 @@
+-- SPDX-License-Identifier: GPL-2.0-only
 use Rattle.std.proofs.Common.{sym, arith}
 use Rattle.shr_walk.proofs.Counting.{count_empty, count_skip, count_many}
 use Rattle.shr_walk_trials.proofs.fakes.kind_of.Goals as goal

@@ -1,3 +1,4 @@
+-- SPDX-License-Identifier: GPL-2.0-only
 use Rattle.std.proofs.Common.{refl, arith}
 use Rattle.shr_walk_trials.proofs.Faking.{holder_visited, holder_ready, holder_inside, fake_visits}
 use Rattle.shr_walk_trials.proofs.visits.visit.Goals as goal

@@ -1,3 +1,4 @@
+-- SPDX-License-Identifier: GPL-2.0-only
 use Rattle.std.proofs.Common.{◌∙◌}
 use Rattle.shr_words.specs.declared.names.Whole.{Whole}
 use Rattle.shr_words.proofs.NamesLaws.{position_is}

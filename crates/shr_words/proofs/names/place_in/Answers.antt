@@ -1,3 +1,4 @@
+-- SPDX-License-Identifier: GPL-2.0-only
 use Rattle.shr_words.proofs.Common.{◌∙◌, List, ap, map, place_of}
 use Rattle.shr_words.specs.declared.names.Whole.{Whole}
 use Rattle.shr_words.proofs.NamesLaws.{position_is}

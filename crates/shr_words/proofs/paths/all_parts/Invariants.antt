@@ -1,3 +1,4 @@
+-- SPDX-License-Identifier: GPL-2.0-only
 use Rattle.shr_words.proofs.Common.{◌≡◌, length, option_map, pieces, all_parts, left}
 use Rattle.shr_words.proofs.paths.all_parts.Given as goal
 

@@ -1,3 +1,4 @@
+-- SPDX-License-Identifier: GPL-2.0-only
 use Rattle.shr_words.proofs.Common.{arith, is_name_byte}
 use Rattle.shr_words.proofs.RunLaws.{front_is}
 use Rattle.shr_words.proofs.runs.name_len.Goals as goal

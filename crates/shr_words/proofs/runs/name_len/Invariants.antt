@@ -1,3 +1,4 @@
+-- SPDX-License-Identifier: GPL-2.0-only
 use Rattle.shr_words.proofs.Common.{◌-◌, ◌≤◌, length, is_name_byte, AllPassBetween}
 use Rattle.shr_words.proofs.runs.name_len.Given as goal
 

@@ -1,3 +1,4 @@
+-- SPDX-License-Identifier: GPL-2.0-only
 use Rattle.shr_words.proofs.Common.{arith, is_visible}
 use Rattle.shr_words.proofs.RunLaws.{front_is}
 use Rattle.shr_words.proofs.runs.visible_len.Goals as goal

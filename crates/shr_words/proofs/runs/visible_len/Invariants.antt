@@ -1,3 +1,4 @@
+-- SPDX-License-Identifier: GPL-2.0-only
 use Rattle.shr_words.proofs.Common.{◌-◌, ◌≤◌, length, is_visible, AllPassBetween}
 use Rattle.shr_words.proofs.runs.visible_len.Given as goal
 

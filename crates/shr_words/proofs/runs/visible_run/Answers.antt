@@ -1,3 +1,4 @@
+-- SPDX-License-Identifier: GPL-2.0-only
 use Rattle.shr_words.proofs.Common.{ℕ, leb, cond, refl, arith, zip2_splat, length-chunk, chunk, is_visible}
 use Rattle.shr_words.proofs.RunLaws.{joined, splat_is, run_in}
 use Rattle.shr_words.proofs.runs.visible_run.Goals as goal

@@ -1,3 +1,4 @@
+-- SPDX-License-Identifier: GPL-2.0-only
 use Rattle.shr_words.proofs.Common.{arith}
 use Rattle.shr_words.proofs.RunLaws.{front_is}
 use Rattle.shr_model.specs.Pieces.{differs}

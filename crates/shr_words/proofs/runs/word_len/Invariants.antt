@@ -1,3 +1,4 @@
+-- SPDX-License-Identifier: GPL-2.0-only
 use Rattle.shr_words.proofs.Common.{◌-◌, ◌≤◌, length, AllPassBetween}
 use Rattle.shr_model.specs.Pieces.{differs}
 use Rattle.shr_words.proofs.runs.word_len.Given as goal

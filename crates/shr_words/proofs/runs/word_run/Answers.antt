@@ -1,3 +1,4 @@
+-- SPDX-License-Identifier: GPL-2.0-only
 use Rattle.shr_words.proofs.Common.{ℕ, refl, arith, zip2_splat, length-chunk, chunk}
 use Rattle.shr_words.proofs.RunLaws.{run_in}
 use Rattle.shr_model.specs.Pieces.{differs}

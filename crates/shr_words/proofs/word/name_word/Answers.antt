@@ -1,3 +1,4 @@
+-- SPDX-License-Identifier: GPL-2.0-only
 use Rattle.shr_words.proofs.Common.{refl, is_name_byte}
 use Rattle.shr_model.specs.PieceParts.{left}
 use Rattle.shr_words.specs.WordReading.{taken}

@@ -1,3 +1,4 @@
+-- SPDX-License-Identifier: GPL-2.0-only
 use Rattle.shr_model.specs.PieceParts.{left}
 use Rattle.shr_model.specs.Pieces.{pieces}
 use Rattle.shr_words.proofs.DigitLaws.{digit_item}

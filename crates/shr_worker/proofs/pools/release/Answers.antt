@@ -1,3 +1,4 @@
+-- SPDX-License-Identifier: GPL-2.0-only
 use Rattle.shr_worker.proofs.Common.{◌<◌, List, length, ap, sym, subst, ◌∙◌, arith, Place, Setting, home_place, room_of, content_of, Sizes, Acting, unfound, release_reply}
 use Rattle.shr_plain.specs.Answers.{ReleaseGives}
 use Rattle.shr_worker.specs.Plain.{worker_units_place}

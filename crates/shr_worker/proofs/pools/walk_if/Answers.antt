@@ -1,3 +1,4 @@
+-- SPDX-License-Identifier: GPL-2.0-only
 use Rattle.shr_worker.proofs.Common.{◌<◌, ◌∷◌, [], Bool, List, ap, length, length-append, refl, sym, subst, arith, Setting, PlainState, PlainSeated, Sizes, Acting, WalksIf}
 use Rattle.shr_plain.specs.Walks.{PlainWalkGives}
 use Rattle.shr_worker.proofs.Pooled.{of_script, node_there}

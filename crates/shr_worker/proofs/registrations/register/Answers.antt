@@ -1,3 +1,4 @@
+-- SPDX-License-Identifier: GPL-2.0-only
 use Rattle.shr_core.specs.Seats.{view_of}
 use Rattle.shr_worker.proofs.Resting.{register_free, fit_with}
 use Rattle.shr_worker.proofs.registrations.register.Goals as goal

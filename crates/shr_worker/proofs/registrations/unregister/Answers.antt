@@ -1,3 +1,4 @@
+-- SPDX-License-Identifier: GPL-2.0-only
 use Rattle.shr_worker.proofs.Common.{ℕ, inr, sym, ap, subst, ◌∙◌, View, view_of, Acting, unfound, ◌⊎◌, shape_of, shared_parents}
 use Rattle.shr_base.specs.declared.replies.Reply.TheVariants as reply
 use Rattle.shr_registry.specs.declared.answers.UnregisterAnswer.TheVariants.{NoCache, Memory, Freed, Half}

@@ -1,3 +1,4 @@
+-- SPDX-License-Identifier: GPL-2.0-only
 use Rattle.shr_worker.proofs.Common.{◌≡◌, ℕ, ◌∷◌, [], ◌++◌, List, length, length-append, arith, refl, sym, ap, subst, ◌∙◌, Some, slice_get, Answered, UseStep, Isolation, PlainWalk, IsCommandWithin, content_of, Acting, Shared, CrewState, DeedGives, worker_commands, crew_at, command_serial, IsWorkOf}
 use Rattle.std.proofs.lemmas.Option.{slice_get_read}
 use Rattle.shr_plain.specs.Seat as plain

@@ -1,3 +1,4 @@
+-- SPDX-License-Identifier: GPL-2.0-only
 use Rattle.shr_worker.proofs.Common.{◌≡◌, ◌≤◌, [], length, IsWorkOf, crew_at}
 use Rattle.shr_worker.proofs.running.run_commands.Given as goal
 

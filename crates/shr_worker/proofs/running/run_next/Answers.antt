@@ -1,3 +1,4 @@
+-- SPDX-License-Identifier: GPL-2.0-only
 use Rattle.shr_worker.proofs.Common.{◌≡◌, None, subst, Acting, DeedGives, crew_at, command_serial}
 use Rattle.shr_worker.proofs.running.run_next.Goals as goal
 

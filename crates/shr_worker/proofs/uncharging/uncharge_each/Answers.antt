@@ -1,3 +1,4 @@
+-- SPDX-License-Identifier: GPL-2.0-only
 use Rattle.shr_worker.proofs.Common.{length, take, refl, ap, sym, subst, ◌∙◌, ◌<◌, ◌≤◌, ◌++◌, ◌∷◌, [], List, arith, Object, UseStep, AllUncharged}
 use Rattle.std.proofs.lemmas.Grind.{take_at_read}
 use Rattle.shr_model.proofs.GroupsLaws.{depth_of-le}

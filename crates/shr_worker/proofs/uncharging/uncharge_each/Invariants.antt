@@ -1,3 +1,4 @@
+-- SPDX-License-Identifier: GPL-2.0-only
 use Rattle.shr_worker.proofs.Common.{◌≡◌, ◌≤◌, length, take, AllUncharged}
 use Rattle.shr_worker.proofs.uncharging.uncharge_each.Given as goal
 

@@ -1,3 +1,4 @@
+-- SPDX-License-Identifier: GPL-2.0-only
 use Rattle.shr_audit_case.proofs.Telling.{no_journal, no_items_taken}
 use Rattle.shr_audit_case.proofs.case.Case.count_after.Goals as goal
 

@@ -1,3 +1,4 @@
+-- SPDX-License-Identifier: GPL-2.0-only
 use Rattle.shr_audit_case.proofs.Telling.{no_journal, no_freed}
 use Rattle.shr_audit_case.proofs.case.Case.freed.Goals as goal
 

@@ -1,3 +1,4 @@
+-- SPDX-License-Identifier: GPL-2.0-only
 use Rattle.shr_audit_case.proofs.Telling.{no_printed}
 use Rattle.shr_audit_case.proofs.case.Case.items_are_left.Goals as goal
 

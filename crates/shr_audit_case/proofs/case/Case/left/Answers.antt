@@ -1,3 +1,4 @@
+-- SPDX-License-Identifier: GPL-2.0-only
 use Rattle.shr_audit_case.proofs.Common.{map, sym, ap, tag_of}
 use Rattle.shr_audit_case.proofs.Telling.{no_journal, no_items}
 use Rattle.shr_audit_case.proofs.case.Case.left.Goals as goal

@@ -1,3 +1,4 @@
+-- SPDX-License-Identifier: GPL-2.0-only
 use Rattle.shr_audit_case.proofs.Telling.{no_journal, no_outcomes}
 use Rattle.shr_audit_case.proofs.case.Case.outcomes_are_so.Goals as goal
 

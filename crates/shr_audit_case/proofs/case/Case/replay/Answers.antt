@@ -1,3 +1,4 @@
+-- SPDX-License-Identifier: GPL-2.0-only
 use Rattle.shr_audit_case.proofs.Common.{◌≡◌, Some, ◌∙◌, sym, ap, subst, arith, slice_get, List, slice_get-get_or, PlaceEnd, Replayed, IsIndexOf}
 use Rattle.shr_audit_case.proofs.Telling.{tells_some}
 use Rattle.shr_audit_case.proofs.case.Case.replay.Goals as goal

@@ -1,3 +1,4 @@
+-- SPDX-License-Identifier: GPL-2.0-only
 use Rattle.shr_audit_case.proofs.Telling.{no_journal, no_values}
 use Rattle.shr_audit_case.proofs.case.Case.values.Goals as goal
 

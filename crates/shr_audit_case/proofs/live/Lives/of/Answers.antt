@@ -1,3 +1,4 @@
+-- SPDX-License-Identifier: GPL-2.0-only
 use Rattle.shr_audit_case.proofs.RegistrationsCommon.{List, ap, ◌∙◌, Span, lookup_key, last_in}
 use Rattle.shr_audit_case.proofs.Living.{live_is}
 use Rattle.shr_audit_case.proofs.live.Lives.of.Goals as goal

@@ -1,3 +1,4 @@
+-- SPDX-License-Identifier: GPL-2.0-only
 use Rattle.shr_audit_case.proofs.RegistrationsCommon.{List, ap, ◌∙◌, Span, decl_found, lookup_key, last_in}
 use Rattle.shr_audit_case.proofs.met.Met.of.Goals as goal
 

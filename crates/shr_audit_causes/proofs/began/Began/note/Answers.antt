@@ -1,3 +1,4 @@
+-- SPDX-License-Identifier: GPL-2.0-only
 use Rattle.std.proofs.Common.{◌∙◌, refl, sym}
 use Rattle.shr_audit_causes.proofs.BeganLaws.{upto_noted}
 use Rattle.shr_audit_causes.proofs.began.Began.note.Goals as goal

@@ -1,3 +1,4 @@
+-- SPDX-License-Identifier: GPL-2.0-only
 use Rattle.shr_audit_causes.specs.Began.{IsUpto}
 use Rattle.shr_audit_causes.proofs.began.Began.of.Given as goal
 

@@ -1,3 +1,4 @@
+-- SPDX-License-Identifier: GPL-2.0-only
 use Rattle.shr_audit_causes.proofs.BeganLaws.{upto_start}
 use Rattle.shr_audit_causes.proofs.began.Began.start.Goals as goal
 

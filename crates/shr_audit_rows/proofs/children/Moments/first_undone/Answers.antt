@@ -1,3 +1,4 @@
+-- SPDX-License-Identifier: GPL-2.0-only
 use Rattle.std.proofs.Common.{◌≡◌, ◌∙◌, ℕ, ◌≤◌, ◌<◌, false, length, arith, below_more, sym}
 use Rattle.shr_audit_rows.proofs.MomentsLaws.{undone, undone_first, undone_none}
 use Rattle.shr_audit_rows.proofs.children.Moments.first_undone.Goals as goal

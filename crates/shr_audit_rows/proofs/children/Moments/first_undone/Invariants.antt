@@ -1,3 +1,4 @@
+-- SPDX-License-Identifier: GPL-2.0-only
 use Rattle.std.proofs.Common.{◌≡◌, ℕ, ◌<◌, false}
 use Rattle.shr_audit_rows.proofs.MomentsLaws.{undone}
 use Rattle.shr_audit_rows.proofs.children.Moments.first_undone.Given as goal

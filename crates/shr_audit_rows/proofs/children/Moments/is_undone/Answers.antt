@@ -1,3 +1,4 @@
+-- SPDX-License-Identifier: GPL-2.0-only
 use Rattle.shr_audit_rows.proofs.Common.{◌∙◌, Bool, ap, get_or, ◌&&◌, ◌||◌, nat_lt, not}
 use Rattle.shr_audit_rows.proofs.MomentsLaws.{child_is, not_child}
 use Rattle.shr_audit_rows.proofs.children.Moments.is_undone.Goals as goal

@@ -1,3 +1,4 @@
+-- SPDX-License-Identifier: GPL-2.0-only
 use Rattle.shr_audit_rows.proofs.Common.{◌≡◌, ◌∙◌, length, ap, arith, refl, length-replicate, is_done, is_making, done_in, group_made_in}
 use Rattle.shr_audit_rows.proofs.MomentsLaws.{all_moments, doing, making, next_noted, noted_long, upto_none}
 use Rattle.shr_audit_rows.proofs.children.Moments.of.Goals as goal

@@ -1,3 +1,4 @@
+-- SPDX-License-Identifier: GPL-2.0-only
 use Rattle.shr_audit_rows.proofs.Common.{◌≡◌, length, is_done, is_making, done_in, group_made_in}
 use Rattle.shr_audit_rows.proofs.MomentsLaws.{Upto, doing, making}
 use Rattle.shr_audit_rows.proofs.children.Moments.of.Given as goal

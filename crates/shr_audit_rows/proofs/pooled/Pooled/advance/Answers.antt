@@ -1,3 +1,4 @@
+-- SPDX-License-Identifier: GPL-2.0-only
 use Rattle.shr_audit_rows.proofs.Common.{◌≤◌, ◌<◌, length, take, arith, length-take}
 use Rattle.shr_audit_rows.proofs.PooledLaws.{room_for, stands_more}
 use Rattle.shr_audit_rows.proofs.pooled.Pooled.advance.Goals as goal

@@ -1,3 +1,4 @@
+-- SPDX-License-Identifier: GPL-2.0-only
 use Rattle.shr_audit_rows.proofs.Common.{take, Stands}
 use Rattle.shr_audit_rows.proofs.pooled.Pooled.advance.Given as goal
 

@@ -1,3 +1,4 @@
+-- SPDX-License-Identifier: GPL-2.0-only
 use Rattle.shr_audit_rows.proofs.PooledLaws.{blank_of}
 use Rattle.shr_audit_rows.proofs.pooled.Pooled.blank.Goals as goal
 

@@ -1,3 +1,4 @@
+-- SPDX-License-Identifier: GPL-2.0-only
 use Rattle.shr_audit_rows.proofs.Common.{◌≡◌, ◌∙◌, ℕ, ◌<◌, false, arith, below_more, sym, is_free_in}
 use Rattle.shr_audit_rows.proofs.PooledLaws.{free_is, none_free, one_free}
 use Rattle.shr_audit_rows.proofs.pooled.Pooled.has_free.Goals as goal

@@ -1,3 +1,4 @@
+-- SPDX-License-Identifier: GPL-2.0-only
 use Rattle.shr_audit_rows.proofs.Common.{◌≡◌, ℕ, ◌<◌, false, is_free_in}
 use Rattle.shr_audit_rows.proofs.pooled.Pooled.has_free.Given as goal
 

@@ -1,3 +1,4 @@
+-- SPDX-License-Identifier: GPL-2.0-only
 use Rattle.shr_audit_rows.proofs.Common.{◌≡◌, ◌∙◌, ℕ, ◌<◌, false, arith, subst, sym, is_live_below}
 use Rattle.shr_audit_rows.proofs.PooledLaws.{live_found, live_next}
 use Rattle.shr_audit_rows.proofs.pooled.Pooled.is_live.Goals as goal

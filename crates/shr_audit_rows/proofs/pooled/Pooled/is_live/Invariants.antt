@@ -1,3 +1,4 @@
+-- SPDX-License-Identifier: GPL-2.0-only
 use Rattle.shr_audit_rows.proofs.Common.{◌≡◌, false, List, PoolEntry, is_live_below, Stands}
 use Rattle.shr_audit_rows.proofs.pooled.Pooled.is_live.Given as goal
 

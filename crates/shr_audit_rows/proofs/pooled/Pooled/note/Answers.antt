@@ -1,3 +1,4 @@
+-- SPDX-License-Identifier: GPL-2.0-only
 use Rattle.shr_audit_rows.proofs.Common.{◌∙◌, ◌<◌, ◌+◌, ◌++◌, ◌∷◌, [], ℕ, length, get_or, set, ap, arith, subst, sym, get_or_default, decl_after, id_of, Stands}
 use Rattle.shr_audit_rows.proofs.PooledLaws.{stands_next}
 use Rattle.shr_audit_rows.proofs.pooled.Pooled.note.Goals as goal

@@ -1,3 +1,4 @@
+-- SPDX-License-Identifier: GPL-2.0-only
 use Rattle.std.proofs.Common.{refl}
 use Rattle.shr_audit_rows.proofs.PooledLaws.{start_stands}
 use Rattle.shr_audit_rows.proofs.pooled.Pooled.start.Goals as goal

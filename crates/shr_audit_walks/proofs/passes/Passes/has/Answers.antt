@@ -1,3 +1,4 @@
+-- SPDX-License-Identifier: GPL-2.0-only
 use Rattle.shr_audit_walks.proofs.ScansCommon.{ℕ, Bool, sym, subst, Contains, Decides, keys_of_report}
 use Rattle.shr_audit_walks.proofs.Found.{found_if_there}
 use Rattle.shr_audit_walks.proofs.passes.Passes.has.Goals as goal

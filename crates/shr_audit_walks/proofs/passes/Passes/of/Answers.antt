@@ -1,3 +1,4 @@
+-- SPDX-License-Identifier: GPL-2.0-only
 use Rattle.shr_audit_walks.proofs.ScansCommon.{ℕ, List, subst, IsPermutation, IsNonDecreasingBy-from_sort}
 use Rattle.shr_audit_walks.proofs.passes.Passes.of.Goals as goal
 

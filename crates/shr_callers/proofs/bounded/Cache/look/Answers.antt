@@ -1,3 +1,4 @@
+-- SPDX-License-Identifier: GPL-2.0-only
 use Rattle.std.proofs.Common.{arith}
 use Rattle.shr_list.proofs.Lengths.{length-look}
 use Rattle.shr_callers.specs.Bounded.{maker}

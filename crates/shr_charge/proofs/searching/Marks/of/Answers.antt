@@ -1,3 +1,4 @@
+-- SPDX-License-Identifier: GPL-2.0-only
 use Rattle.shr_charge.proofs.Common.{false, arith, get_or-replicate, is_making, is_done}
 use Rattle.shr_charge.proofs.Searches.{marked_more}
 use Rattle.shr_charge.proofs.searching.Marks.of.Goals as goal

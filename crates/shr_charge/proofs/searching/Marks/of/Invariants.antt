@@ -1,3 +1,4 @@
+-- SPDX-License-Identifier: GPL-2.0-only
 use Rattle.shr_charge.proofs.Common.{take, AreMarkedGroups}
 use Rattle.shr_charge.proofs.searching.Marks.of.Given as goal
 

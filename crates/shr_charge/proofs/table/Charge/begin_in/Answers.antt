@@ -1,3 +1,4 @@
+-- SPDX-License-Identifier: GPL-2.0-only
 use Rattle.shr_charge.proofs.Common.{ap, sym, refl, ◌∙◌, ChargeToken, hierarchy_of, done_of, state_at}
 use Rattle.shr_charge.proofs.States.{offline_begun, online_made, online_fresh, absent_not_made, absent_fresh}
 use Rattle.shr_charge.proofs.table.Charge.begin_in.Goals as goal

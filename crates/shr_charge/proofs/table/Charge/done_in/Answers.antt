@@ -1,3 +1,4 @@
+-- SPDX-License-Identifier: GPL-2.0-only
 use Rattle.shr_charge.proofs.Common.{◌≡◌, ap, sym, ◌∙◌, ⊎_elim, hierarchy_of, state_at, begin_of, None}
 use Rattle.shr_charge.proofs.States.{offline_begun, online_fresh, absent_fresh, fresh_undone, done_behind}
 use Rattle.shr_charge.proofs.table.Charge.done_in.Goals as goal

@@ -1,3 +1,4 @@
+-- SPDX-License-Identifier: GPL-2.0-only
 use Rattle.shr_charge.proofs.Common.{ap, subst, ◌∙◌, ℕ, map, range_with_len, slots_items, Final, Seen, Shape, IsChargeSound, usage_in}
 use Rattle.shr_charge.proofs.Finals.{ends}
 use Rattle.shr_charge.proofs.table.Charge.finish.Goals as goal

@@ -1,3 +1,4 @@
+-- SPDX-License-Identifier: GPL-2.0-only
 use Rattle.shr_charge.proofs.Common.{◌≡◌, ℕ, List, [], ◌∷◌, ap, subst, sym, ◌∙◌, arith, Allows, rest, Kept, TreeEntry, Shape, IsChargeSound, with_done, ChargeSat, ChargeToken, with_room_back}
 use Rattle.shr_charge.proofs.SeatLaws.{token_is}
 use Rattle.shr_charge.proofs.Moves.{gives_done}

@@ -1,3 +1,4 @@
+-- SPDX-License-Identifier: GPL-2.0-only
 use Rattle.shr_charge.proofs.Common.{◌≡◌, with_room_back, with_done}
 use Rattle.shr_charge.proofs.table.Charge.give_done.Given as goal
 

@@ -1,3 +1,4 @@
+-- SPDX-License-Identifier: GPL-2.0-only
 use Rattle.shr_charge.proofs.Common.{◌≡◌, with_room_back, with_tree_given}
 use Rattle.shr_charge.proofs.table.Charge.give_tree.Given as goal
 

@@ -1,3 +1,4 @@
+-- SPDX-License-Identifier: GPL-2.0-only
 use Rattle.shr_charge.proofs.Common.{refl}
 use Rattle.shr_charge.proofs.SeatLaws.{token_is}
 use Rattle.shr_charge.proofs.table.Charge.lock_as.Goals as goal

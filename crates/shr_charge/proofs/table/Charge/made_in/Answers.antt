@@ -1,3 +1,4 @@
+-- SPDX-License-Identifier: GPL-2.0-only
 use Rattle.shr_charge.proofs.Common.{ap, sym, ◌∙◌, hierarchy_of, state_at}
 use Rattle.shr_charge.proofs.States.{absent_made}
 use Rattle.shr_charge.proofs.table.Charge.made_in.Goals as goal

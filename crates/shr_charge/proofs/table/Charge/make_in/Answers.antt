@@ -1,3 +1,4 @@
+-- SPDX-License-Identifier: GPL-2.0-only
 use Rattle.shr_charge.proofs.Common.{◌≡◌, ap, sym, refl, subst, ◌∙◌, None, true, Some, ChargeToken, hierarchy_of, begin_of, is_made, made_of, state_at}
 use Rattle.shr_charge.proofs.States.{offline_begun, offline_made, online_made, online_fresh, absent_not_made}
 use Rattle.shr_charge.proofs.table.Charge.make_in.Goals as goal

@@ -1,3 +1,4 @@
+-- SPDX-License-Identifier: GPL-2.0-only
 use Rattle.shr_charge.proofs.Common.{◌≡◌, ◌+◌, ◌≤◌, length, sym, ◌∙◌, arith, Result, Ok, Err, is_err, false, OnOk}
 use Rattle.shr_charge.proofs.Entries.{opens_all}
 use Rattle.shr_charge.proofs.table.Charge.make_online.Goals as goal

@@ -1,3 +1,4 @@
+-- SPDX-License-Identifier: GPL-2.0-only
 use Rattle.shr_charge.proofs.Common.{◌≡◌, List, [], ◌∷◌, ◌++◌, ap, sym, subst, ◌∙◌, opening, Kept, TreeEntry, AreFirstGroupWords, IsChargeSound, first_charge_view}
 use Rattle.shr_charge.proofs.Beginnings.{opened}
 use Rattle.shr_charge.proofs.table.Charge.new.Goals as goal

@@ -1,3 +1,4 @@
+-- SPDX-License-Identifier: GPL-2.0-only
 use Rattle.shr_charge.proofs.Common.{◌≡◌, length, ap, subst, sym, ◌∙◌, inl, inr, ⊎_elim, arith, Allows, Shape, hierarchy_of, IsChargeSound, group_index, state_at, state_in, IsWord, ChargeSat}
 use Rattle.shr_charge.proofs.Moves.{reads}
 use Rattle.shr_charge.proofs.table.Charge.state_in_hand.Goals as goal

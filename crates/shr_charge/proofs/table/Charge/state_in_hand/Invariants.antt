@@ -1,3 +1,4 @@
+-- SPDX-License-Identifier: GPL-2.0-only
 use Rattle.shr_charge.proofs.Common.{◌≡◌, length, hierarchy_of, state_at, state_in, IsWord}
 use Rattle.shr_charge.proofs.table.Charge.state_in_hand.Given as goal
 

@@ -1,3 +1,4 @@
+-- SPDX-License-Identifier: GPL-2.0-only
 use Rattle.shr_charge.proofs.Common.{◌≡◌, ◌+◌, subst, sym, arith, Allows, Shape, IsChargeSound, group_index, with_begin, with_tree}
 use Rattle.shr_charge.proofs.Moves.{begins}
 use Rattle.shr_charge.proofs.table.Charge.store_begin.Goals as goal

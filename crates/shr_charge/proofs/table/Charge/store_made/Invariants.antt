@@ -1,3 +1,4 @@
+-- SPDX-License-Identifier: GPL-2.0-only
 use Rattle.shr_charge.proofs.Common.{◌≡◌, with_made, with_tree}
 use Rattle.shr_charge.proofs.table.Charge.store_made.Given as goal
 

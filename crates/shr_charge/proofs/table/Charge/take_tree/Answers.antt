@@ -1,3 +1,4 @@
+-- SPDX-License-Identifier: GPL-2.0-only
 use Rattle.shr_charge.proofs.Common.{ℕ, List, ◌∷◌, ap, sym, subst, ◌∙◌, rest, Kept, TreeEntry, ChargeSat, IsTokenOf, ChargeToken}
 use Rattle.shr_charge.proofs.Holding.{has_room, shown}
 use Rattle.shr_charge.proofs.table.Charge.take_tree.Goals as goal

@@ -1,3 +1,4 @@
+-- SPDX-License-Identifier: GPL-2.0-only
 use Rattle.std.proofs.Common.{◌≡◌}
 use Rattle.shr_charge.proofs.table.Charge.take_tree.Given as goal
 

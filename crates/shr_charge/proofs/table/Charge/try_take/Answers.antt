@@ -1,3 +1,4 @@
+-- SPDX-License-Identifier: GPL-2.0-only
 use Rattle.shr_charge.proofs.Common.{◌≡◌, ◌≢◌, eqb, subst, sym, arith, Allows, Shape, IsChargeSound, hierarchy_of, TakesTreeRoom}
 use prog.Atomic.{either}
 use Rattle.shr_charge.proofs.Moves.{locks}

@@ -1,3 +1,4 @@
+-- SPDX-License-Identifier: GPL-2.0-only
 use Rattle.shr_charge.proofs.Common.{◌≡◌, ◌≢◌, hierarchy_of, TakesTreeRoom}
 use Rattle.shr_charge.proofs.table.Charge.try_take.Given as goal
 

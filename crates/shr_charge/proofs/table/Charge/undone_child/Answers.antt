@@ -1,3 +1,4 @@
+-- SPDX-License-Identifier: GPL-2.0-only
 use Rattle.shr_charge.proofs.Common.{sym, ◌∙◌, arith, is_undone_child, hierarchy_of}
 use Rattle.shr_charge.proofs.Searches.{find_here, find_more}
 use Rattle.shr_charge.proofs.table.Charge.undone_child.Goals as goal

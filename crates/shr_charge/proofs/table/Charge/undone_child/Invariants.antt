@@ -1,3 +1,4 @@
+-- SPDX-License-Identifier: GPL-2.0-only
 use Rattle.shr_charge.proofs.Common.{◌≡◌, None, find, range_with_len, is_undone_child, hierarchy_of}
 use Rattle.shr_charge.proofs.table.Charge.undone_child.Given as goal
 

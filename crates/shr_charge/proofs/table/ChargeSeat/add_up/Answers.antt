@@ -1,3 +1,4 @@
+-- SPDX-License-Identifier: GPL-2.0-only
 use Rattle.shr_charge.proofs.Common.{ℕ, ◌+◌, ◌%◌, ◌*◌, ◌≤◌, ◌^◌, Bool, true, refl, subst, sym, arith, All, bool_byte, Allows, Serial, UseStep, Shape, call_count, IsLaterThan, IsChargeSound, usage_index, TellsUse, op_of, ups_at, IsPaced, Uses, both_uses, one_use, uses_of, ◌∙◌, ap, ◌<◌, length, ChargeSeated}
 use Rattle.shr_charge.proofs.Moves.{charges}
 use Rattle.shr_charge.proofs.Pacing.{paced_up}

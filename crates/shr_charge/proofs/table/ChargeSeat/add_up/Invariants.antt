@@ -1,3 +1,4 @@
+-- SPDX-License-Identifier: GPL-2.0-only
 use Rattle.shr_charge.proofs.Common.{true, call_count, TellsUse, op_of}
 use Rattle.shr_charge.proofs.table.ChargeSeat.add_up.Given as goal
 

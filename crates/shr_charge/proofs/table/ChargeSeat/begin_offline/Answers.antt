@@ -1,3 +1,4 @@
+-- SPDX-License-Identifier: GPL-2.0-only
 use Rattle.shr_charge.proofs.Common.{◌<◌, arith, ap, subst, ChargeSeated, ChargeToken, hierarchy_of, tree_of}
 use Rattle.shr_charge.specs.Answers.{IfGiven, KnowsTree}
 use Rattle.shr_charge.proofs.Giving.{begun_token, offline_knows}

@@ -1,3 +1,4 @@
+-- SPDX-License-Identifier: GPL-2.0-only
 use Rattle.shr_charge.proofs.Common.{◌<◌, ◌≤◌, false, length, sym, subst, Charge, Lowers, path_to}
 use Rattle.std.proofs.Common.{rules}
 use Rattle.shr_charge.proofs.Refusals.{refused_room, refused_spare, refused}

@@ -1,3 +1,4 @@
+-- SPDX-License-Identifier: GPL-2.0-only
 use Rattle.shr_charge.proofs.Common.{◌≡◌, ◌<◌, ◌≤◌, ℕ, true, false, length, ap, sym, subst, ◌∙◌, arith, parent_of, Charge, ChargeSeated, Uses, IsBelow, IsClimbing, IsPaced, shape_limit, ups_at, uses_of}
 use Rattle.shr_charge.proofs.Climbs.{climbing_first, climbing_room, climbing_calls, climbing_spare, climbing_next, climbed, stopped}
 use Rattle.shr_charge.proofs.table.ChargeSeat.climb.Goals as goal

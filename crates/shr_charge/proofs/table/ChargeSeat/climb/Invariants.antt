@@ -1,3 +1,4 @@
+-- SPDX-License-Identifier: GPL-2.0-only
 use Rattle.shr_charge.proofs.Common.{◌<◌, length, IsClimbing}
 use Rattle.shr_charge.proofs.table.ChargeSeat.climb.Given as goal
 

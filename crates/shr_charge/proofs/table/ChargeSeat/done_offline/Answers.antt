@@ -1,3 +1,4 @@
+-- SPDX-License-Identifier: GPL-2.0-only
 use Rattle.shr_charge.proofs.Common.{◌<◌, ℕ, Bool, List, [], ◌∷◌, ◌++◌, length, ap, subst, sym, ◌∙◌, arith, is_some, IsSome, Option, TreeEntry, ChargeSeated, ChargeToken, Done, MayBeDone, begin_of, done_of, hierarchy_of, opens, tree_of}
 use Rattle.shr_charge.specs.Answers.{DoneTells, KnowsTree}
 use Rattle.shr_charge.specs.declared.answers.DoneAnswer.TheVariants as ended

@@ -1,3 +1,4 @@
+-- SPDX-License-Identifier: GPL-2.0-only
 use Rattle.shr_charge.proofs.Common.{◌≡◌, ℕ, true, sym, ap, subst, ◌∙◌, arith, Charge, ChargeSeated, ChargeToken, IsChargeSeat, standing_of}
 use Rattle.shr_charge.proofs.Seating.{joins}
 use Rattle.shr_charge.proofs.SeatLaws.{IsOf-join}

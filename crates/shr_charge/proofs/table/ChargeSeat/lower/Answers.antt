@@ -1,3 +1,4 @@
+-- SPDX-License-Identifier: GPL-2.0-only
 use Rattle.shr_charge.proofs.Common.{◌≡◌, ◌<◌, ◌≤◌, ◌+◌, ◌*◌, ◌^◌, ℕ, Bool, true, false, [], ◌∷◌, length, refl, sym, ap, subst, ◌∙◌, ⊎_elim, arith, call_count, parent_of, Charge, ChargeSeated, IsLowering, IsPaced, path_to, uses_of, downs_at, both_uses, one_use}
 use Rattle.shr_charge.proofs.Ways.{way_here, way_root}
 use Rattle.shr_charge.proofs.Climbs.{lowering_first, lowering_room, lowering_calls, lowering_spare, lowering_next, lowered}

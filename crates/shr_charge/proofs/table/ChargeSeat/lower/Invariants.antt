@@ -1,3 +1,4 @@
+-- SPDX-License-Identifier: GPL-2.0-only
 use Rattle.shr_charge.proofs.Common.{◌<◌, length, IsLowering}
 use Rattle.shr_charge.proofs.table.ChargeSeat.lower.Given as goal
 

@@ -1,3 +1,4 @@
+-- SPDX-License-Identifier: GPL-2.0-only
 use Rattle.shr_charge.proofs.Common.{ap, subst, ChargeSeated, ChargeToken, hierarchy_of, tree_of}
 use Rattle.shr_charge.specs.Answers.{KnowsTree, MakeTells}
 use Rattle.shr_charge.proofs.Giving.{made_token, group_knows, group_tells}

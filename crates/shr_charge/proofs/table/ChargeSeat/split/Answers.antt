@@ -1,3 +1,4 @@
+-- SPDX-License-Identifier: GPL-2.0-only
 use Rattle.shr_charge.proofs.Common.{◌≡◌, ◌<◌, true, sym, subst, arith, ChargeSeated, standing_of}
 use Rattle.shr_charge.proofs.Seating.{splits}
 use Rattle.shr_charge.proofs.table.ChargeSeat.split.Goals as goal

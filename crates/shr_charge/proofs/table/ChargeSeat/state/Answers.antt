@@ -1,3 +1,4 @@
+-- SPDX-License-Identifier: GPL-2.0-only
 use Rattle.shr_charge.proofs.Common.{◌≡◌, ◌<◌, length, ap, subst, sym, ◌∙◌, inl, inr, ⊎_elim, arith, Allows, Shape, ChargeSeated, hierarchy_of, IsChargeSound, group_index, seated_at, tree_of, with_load, with_tree, state_in, IsWord, Shows}
 use Rattle.shr_charge.proofs.Moves.{loads}
 use Rattle.shr_charge.proofs.SeatLaws.{IsOf-tree, token_less}

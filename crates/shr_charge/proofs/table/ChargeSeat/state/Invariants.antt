@@ -1,3 +1,4 @@
+-- SPDX-License-Identifier: GPL-2.0-only
 use Rattle.shr_charge.proofs.Common.{◌≡◌, length, hierarchy_of, with_load, with_tree, state_in, IsWord, Shows}
 use Rattle.shr_charge.proofs.table.ChargeSeat.state.Given as goal
 

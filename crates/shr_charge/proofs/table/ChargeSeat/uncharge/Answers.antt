@@ -1,3 +1,4 @@
+-- SPDX-License-Identifier: GPL-2.0-only
 use Rattle.std.proofs.Common.{◌≡◌, true, false, List, ℕ, subst, arith}
 use Rattle.shr_charge.proofs.Ways.{way_whole, way_short}
 use Rattle.shr_charge.specs.Charging.{AreDowns}

@@ -1,3 +1,4 @@
+-- SPDX-License-Identifier: GPL-2.0-only
 use Rattle.shr_core.proofs.Common.{ℕ, ◌≡◌, ◌+◌, ◌*◌, ◌%◌, ◌^◌, ap, subst, sym, arith, bit_and, bit_not, w64, place_number, row_in, map_of, sizes_of, IsInside, with_clear}
 use Rattle.shr_core.proofs.Bits.{clears, map_low}
 use Rattle.shr_core.proofs.Calls.{may, inside, map_there}

@@ -1,3 +1,4 @@
+-- SPDX-License-Identifier: GPL-2.0-only
 use Rattle.shr_core.proofs.Common.{◌≡◌, with_clear}
 use Rattle.shr_core.proofs.seat.Seat.clear_bit.Given as goal
 

@@ -1,3 +1,4 @@
+-- SPDX-License-Identifier: GPL-2.0-only
 use Rattle.shr_core.proofs.Common.{ℕ, ◌*◌, ap, subst, sym, arith, row_in, sizes_of, IsInside}
 use Rattle.shr_core.proofs.Laying.{inside_low}
 use Rattle.shr_core.proofs.Loads.{counts}

@@ -1,3 +1,4 @@
+-- SPDX-License-Identifier: GPL-2.0-only
 use Rattle.shr_core.specs.Tells.{count_loaded}
 use Rattle.shr_core.proofs.seat.Seat.count.Given as goal
 

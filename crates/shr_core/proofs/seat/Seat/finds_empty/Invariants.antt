@@ -1,3 +1,4 @@
+-- SPDX-License-Identifier: GPL-2.0-only
 use Rattle.shr_core.specs.Tells.{empty_loaded}
 use Rattle.shr_core.proofs.seat.Seat.finds_empty.Given as goal
 

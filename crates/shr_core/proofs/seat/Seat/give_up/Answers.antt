@@ -1,3 +1,4 @@
+-- SPDX-License-Identifier: GPL-2.0-only
 use Rattle.shr_core.proofs.Common.{ℕ, ◌≡◌, ◌+◌, ◌*◌, word_in, with_given_up}
 use Rattle.shr_core.proofs.LookupSteps.{gives_up}
 use Rattle.shr_core.proofs.Laying.{look_low}

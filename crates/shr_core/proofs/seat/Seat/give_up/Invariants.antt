@@ -1,3 +1,4 @@
+-- SPDX-License-Identifier: GPL-2.0-only
 use Rattle.shr_core.proofs.Common.{◌≡◌, word_in, with_given_up}
 use Rattle.shr_core.proofs.seat.Seat.give_up.Given as goal
 

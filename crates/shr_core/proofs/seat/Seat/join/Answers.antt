@@ -1,3 +1,4 @@
+-- SPDX-License-Identifier: GPL-2.0-only
 use Rattle.shr_core.proofs.Common.{List, map, ap, subst, sym, ◌∙◌, arith, Joins, Setting, row_in, sizes_of, Hand, Sound, spent, with_joined, IsAtRest}
 use Rattle.shr_core.specs.declared.table.Core.{Core}
 use Rattle.shr_core.proofs.Seats.{joins}

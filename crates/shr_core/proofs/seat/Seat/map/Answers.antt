@@ -1,3 +1,4 @@
+-- SPDX-License-Identifier: GPL-2.0-only
 use Rattle.shr_core.proofs.Common.{ℕ, ◌+◌, ◌*◌, ◌/◌, refl, ap, arith, row_in, sizes_of}
 use Rattle.shr_core.proofs.Laying.{row_yes}
 use Rattle.shr_core.specs.Tells.{mapped}

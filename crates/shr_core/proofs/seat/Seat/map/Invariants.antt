@@ -1,3 +1,4 @@
+-- SPDX-License-Identifier: GPL-2.0-only
 use Rattle.std.proofs.Common.{◌/◌}
 use Rattle.shr_core.specs.Tells.{mapped}
 use Rattle.shr_core.proofs.seat.Seat.map.Given as goal

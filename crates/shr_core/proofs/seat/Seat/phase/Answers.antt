@@ -1,3 +1,4 @@
+-- SPDX-License-Identifier: GPL-2.0-only
 use Rattle.shr_core.proofs.Common.{refl, ap, ◌∙◌, with_phase}
 use Rattle.shr_core.specs.Moves.{Token}
 use Rattle.shr_core.proofs.Calls.{content_changed}

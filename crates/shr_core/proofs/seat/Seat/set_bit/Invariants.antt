@@ -1,3 +1,4 @@
+-- SPDX-License-Identifier: GPL-2.0-only
 use Rattle.shr_core.proofs.Common.{◌≡◌, with_set}
 use Rattle.shr_core.proofs.seat.Seat.set_bit.Given as goal
 

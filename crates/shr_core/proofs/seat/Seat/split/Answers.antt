@@ -1,3 +1,4 @@
+-- SPDX-License-Identifier: GPL-2.0-only
 use Rattle.shr_core.proofs.Common.{subst, sym, arith, Splits, Setting, Sound, with_one_split, split_off}
 use Rattle.shr_core.proofs.Seats.{splits}
 use Rattle.shr_core.proofs.seat.Seat.split.Goals as goal

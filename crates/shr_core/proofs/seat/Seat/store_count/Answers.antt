@@ -1,3 +1,4 @@
+-- SPDX-License-Identifier: GPL-2.0-only
 use Rattle.shr_core.proofs.Common.{ℕ, ◌≡◌, ◌+◌, ◌*◌, List, length, refl, ap, subst, sym, arith, Entry, row_in, sizes_of, with_stored, IsLater, last_entry, MayStore}
 use Rattle.shr_core.proofs.Laying.{inside_low}
 use Rattle.shr_core.proofs.Stores.{stored}

@@ -1,3 +1,4 @@
+-- SPDX-License-Identifier: GPL-2.0-only
 use Rattle.shr_core.proofs.Common.{◌≡◌, with_stored, IsLater, last_entry}
 use Rattle.shr_core.proofs.seat.Seat.store_count.Given as goal
 

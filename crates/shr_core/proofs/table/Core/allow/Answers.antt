@@ -1,3 +1,4 @@
+-- SPDX-License-Identifier: GPL-2.0-only
 use Rattle.shr_core.proofs.Common.{ℕ, ◌≡◌, ◌+◌, ◌*◌, ap, sym, ◌∙◌, LookupWord, word_in, with_leave}
 use Rattle.shr_core.proofs.LookupSteps.{allows}
 use Rattle.shr_core.proofs.Laying.{look_low}

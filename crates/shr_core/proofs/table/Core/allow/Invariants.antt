@@ -1,3 +1,4 @@
+-- SPDX-License-Identifier: GPL-2.0-only
 use Rattle.shr_core.proofs.Common.{◌≡◌, word_in, with_leave}
 use Rattle.shr_core.proofs.table.Core.allow.Given as goal
 

@@ -1,3 +1,4 @@
+-- SPDX-License-Identifier: GPL-2.0-only
 use Rattle.shr_core.proofs.Common.{ℕ, ◌+◌, ◌*◌, ◌%◌, ◌^◌, ap, sym, ◌∙◌, LookupWord, with_lookup}
 use Rattle.shr_core.specs.Tells.{looked}
 use Rattle.shr_core.proofs.LookupSteps.{looks}

@@ -1,3 +1,4 @@
+-- SPDX-License-Identifier: GPL-2.0-only
 use Rattle.shr_core.proofs.Common.{ℕ, ◌+◌, ◌*◌, ◌%◌, ◌^◌, eqb, looked_again}
 use prog.Atomic.{either}
 use Rattle.shr_core.proofs.AgainSteps.{looks_again}

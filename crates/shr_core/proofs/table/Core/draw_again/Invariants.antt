@@ -1,3 +1,4 @@
+-- SPDX-License-Identifier: GPL-2.0-only
 use Rattle.shr_core.specs.Again.{looked_again}
 use Rattle.shr_core.proofs.table.Core.draw_again.Given as goal
 

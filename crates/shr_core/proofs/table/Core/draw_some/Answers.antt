@@ -1,3 +1,4 @@
+-- SPDX-License-Identifier: GPL-2.0-only
 use Rattle.shr_core.proofs.Common.{◌≡◌, ◌⊎◌, ℕ, ◌<◌, ap, sym, subst, ◌∙◌, inr, ⊎_elim, arith, LookupWord, lookups_of, word_in, last_lookups, Sat, MetLive, with_again, looked_again, Met, Shape, DrawsAgain, IsMet}
 use Rattle.shr_core.proofs.table.Core.draw_some.Goals as goal
 

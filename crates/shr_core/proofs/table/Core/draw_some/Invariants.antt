@@ -1,3 +1,4 @@
+-- SPDX-License-Identifier: GPL-2.0-only
 use Rattle.shr_core.proofs.Common.{◌≡◌, ◌⊎◌, ◌<◌, lookups_of, last_lookups}
 use Rattle.shr_core.proofs.table.Core.draw_some.Given as goal
 

@@ -1,3 +1,4 @@
+-- SPDX-License-Identifier: GPL-2.0-only
 use Rattle.shr_core.proofs.Common.{◌≡◌, ℕ, zero, suc, ◌<◌, Bool, false, List, [], ◌∷◌, get_or, set, refl, ap, subst, sym, ◌∙◌, arith, get_or-set_other, dite, ℕ_discrete, slots_items, Final, Seen, Setting, PoolEntry, Slot, Sizes, row_count, places_in, bits_in, Sound, IsClosedOf, nodes_below, units_in, ends_below, entries_in, items_in}
 use Rattle.std.specs.Slots.{slots_filled, slots_len}
 use Rattle.shr_base.specs.Kept.{Kept}

@@ -1,3 +1,4 @@
+-- SPDX-License-Identifier: GPL-2.0-only
 use Rattle.shr_core.proofs.Common.{ℕ, ◌≡◌, ◌+◌, ◌*◌, ◌∷◌, ap, subst, sym, ◌∙◌, arith, Allows, rest, Sound, Sat, with_given}
 use Rattle.shr_core.proofs.RoomSteps.{given}
 use Rattle.shr_core.proofs.Laying.{inside_low}

@@ -1,3 +1,4 @@
+-- SPDX-License-Identifier: GPL-2.0-only
 use Rattle.shr_core.proofs.Common.{◌≡◌, rest, with_given}
 use Rattle.shr_core.proofs.table.Core.give_front.Given as goal
 

@@ -1,3 +1,4 @@
+-- SPDX-License-Identifier: GPL-2.0-only
 use Rattle.shr_core.proofs.Common.{ℕ, ◌≡◌, ◌+◌, ◌*◌, ◌∷◌, ap, subst, sym, ◌∙◌, arith, Allows, rest, places_in, Sound, Sat, with_pool_given}
 use Rattle.shr_core.proofs.RoomSteps.{pool_given}
 use Rattle.shr_core.proofs.Laying.{pool_row}

@@ -1,3 +1,4 @@
+-- SPDX-License-Identifier: GPL-2.0-only
 use Rattle.shr_core.proofs.Common.{◌≡◌, rest, places_in, with_pool_given}
 use Rattle.shr_core.proofs.table.Core.give_pool_front.Given as goal
 

@@ -1,3 +1,4 @@
+-- SPDX-License-Identifier: GPL-2.0-only
 use Rattle.shr_core.proofs.Common.{ℕ, List, ap, ◌∙◌, subst, sym, arith, row_count, opening, Setting, Sound, opener}
 use Rattle.shr_core.proofs.Openings.{opens}
 use Rattle.shr_core.proofs.table.Core.new.Goals as goal

@@ -1,3 +1,4 @@
+-- SPDX-License-Identifier: GPL-2.0-only
 use Rattle.shr_core.proofs.Common.{ℕ, ◌+◌, ◌*◌, worded}
 use Rattle.shr_core.proofs.LookupSteps.{words}
 use Rattle.shr_core.proofs.Laying.{look_low}

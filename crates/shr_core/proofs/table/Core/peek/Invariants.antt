@@ -1,3 +1,4 @@
+-- SPDX-License-Identifier: GPL-2.0-only
 use Rattle.shr_core.specs.Tells.{worded}
 use Rattle.shr_core.proofs.table.Core.peek.Given as goal
 

@@ -1,3 +1,4 @@
+-- SPDX-License-Identifier: GPL-2.0-only
 use Rattle.shr_core.proofs.Common.{ℕ, ◌≡◌, ◌+◌, ◌-◌, ◌*◌, ◌%◌, ◌^◌, with_put}
 use Rattle.shr_core.proofs.LookupSteps.{puts}
 use Rattle.shr_core.proofs.Laying.{look_low}

@@ -1,3 +1,4 @@
+-- SPDX-License-Identifier: GPL-2.0-only
 use Rattle.shr_core.proofs.Common.{◌≡◌, with_put}
 use Rattle.shr_core.proofs.table.Core.put_back.Given as goal
 

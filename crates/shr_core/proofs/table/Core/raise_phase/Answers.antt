@@ -1,3 +1,4 @@
+-- SPDX-License-Identifier: GPL-2.0-only
 use Rattle.shr_core.proofs.Common.{ℕ, ◌+◌, ◌*◌, ◌%◌, ◌^◌, ap, sym, ◌∙◌, LookupWord, with_phase, phase_told}
 use Rattle.shr_core.proofs.LookupSteps.{phased}
 use Rattle.shr_core.proofs.Laying.{look_low}

@@ -1,3 +1,4 @@
+-- SPDX-License-Identifier: GPL-2.0-only
 use Rattle.shr_core.specs.Tells.{phase_told}
 use Rattle.shr_core.proofs.table.Core.raise_phase.Given as goal
 

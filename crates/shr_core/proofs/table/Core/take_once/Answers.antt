@@ -1,3 +1,4 @@
+-- SPDX-License-Identifier: GPL-2.0-only
 use Rattle.shr_core.proofs.Common.{ℕ, ◌+◌, ◌*◌, eqb, arith, took, place_content, PlaceTold}
 use prog.Atomic.{either}
 use Rattle.shr_core.proofs.RoomSteps.{taken}

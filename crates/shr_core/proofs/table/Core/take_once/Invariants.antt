@@ -1,3 +1,4 @@
+-- SPDX-License-Identifier: GPL-2.0-only
 use Rattle.shr_core.specs.Tells.{took, place_content, PlaceTold}
 use Rattle.shr_core.proofs.table.Core.take_once.Given as goal
 

@@ -1,3 +1,4 @@
+-- SPDX-License-Identifier: GPL-2.0-only
 use Rattle.shr_core.proofs.Common.{ℕ, ◌+◌, ◌*◌, eqb, arith, places_in, took, turns_content, PoolTold}
 use prog.Atomic.{either}
 use Rattle.shr_core.proofs.RoomSteps.{pool_taken}

@@ -1,3 +1,4 @@
+-- SPDX-License-Identifier: GPL-2.0-only
 use Rattle.shr_core.proofs.Common.{places_in, took, turns_content, PoolTold}
 use Rattle.shr_core.proofs.table.Core.take_pool_once.Given as goal
 

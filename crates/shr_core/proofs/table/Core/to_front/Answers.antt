@@ -1,3 +1,4 @@
+-- SPDX-License-Identifier: GPL-2.0-only
 use Rattle.shr_core.proofs.Common.{◌≡◌, ℕ, [], ◌∷◌, map, ap, sym, subst, ◌∙◌, row_in, sizes_of, Sat, HasFirst, numbers_of, slot_numbers, rest}
 use Rattle.shr_core.proofs.Fronts.{no_hand, one_hand, last_hand, first_hand, front, turned_front}
 use Rattle.shr_core.proofs.table.Core.to_front.Goals as goal

@@ -1,3 +1,4 @@
+-- SPDX-License-Identifier: GPL-2.0-only
 use Rattle.shr_core.proofs.Common.{with_try, took, place_content, PlaceTold}
 use Rattle.shr_core.proofs.table.Core.try_once.Given as goal
 

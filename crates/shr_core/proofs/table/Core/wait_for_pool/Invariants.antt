@@ -1,3 +1,4 @@
+-- SPDX-License-Identifier: GPL-2.0-only
 use Rattle.std.proofs.Common.{◌≡◌}
 use Rattle.shr_core.proofs.table.Core.wait_for_pool.Given as goal
 

@@ -1,3 +1,4 @@
+-- SPDX-License-Identifier: GPL-2.0-only
 use Rattle.shr_deferred.proofs.SeatLaws.{like}
 use Rattle.shr_deferred.proofs.table.Deferred.add_as.Goals as goal
 

@@ -1,3 +1,4 @@
+-- SPDX-License-Identifier: GPL-2.0-only
 use Rattle.shr_deferred.proofs.Common.{List, subst, sym, ◌∙◌, slots_items, Final, Seen, PlaceAmount, Sizes, HasHistory, IsDeferredSound, strands_in}
 use Rattle.std.proofs.lemmas.Result.{IfOk-weaker}
 use Rattle.shr_deferred.proofs.Amounts.{ends, order_left}

@@ -1,3 +1,4 @@
+-- SPDX-License-Identifier: GPL-2.0-only
 use Rattle.shr_deferred.proofs.Common.{◌∙◌, ℕ, ap, replicate}
 use Rattle.shr_deferred.proofs.Seating.{begins}
 use Rattle.shr_deferred.proofs.table.Deferred.new.Goals as goal

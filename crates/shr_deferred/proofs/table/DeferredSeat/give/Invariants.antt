@@ -1,3 +1,4 @@
+-- SPDX-License-Identifier: GPL-2.0-only
 use Rattle.shr_deferred.proofs.Common.{◌≡◌, give_of}
 use Rattle.shr_deferred.proofs.Steps.{with_moves}
 use Rattle.shr_deferred.proofs.table.DeferredSeat.give.Given as goal

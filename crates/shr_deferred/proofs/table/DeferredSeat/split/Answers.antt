@@ -1,3 +1,4 @@
+-- SPDX-License-Identifier: GPL-2.0-only
 use Rattle.shr_deferred.proofs.Common.{◌≡◌, true, subst, sym}
 use Rattle.shr_deferred.specs.Seat.{DeferredSeated}
 use Rattle.shr_deferred.proofs.Seating.{splits, some_words}

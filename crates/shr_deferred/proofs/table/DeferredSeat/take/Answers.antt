@@ -1,3 +1,4 @@
+-- SPDX-License-Identifier: GPL-2.0-only
 use Rattle.shr_deferred.proofs.Common.{ℕ, ◌≡◌, subst, sym, arith, Allows, Sizes, IsPlaceOf, acts_of, IsAlone, left_at, take_of, IsDeferredSound}
 use Rattle.shr_deferred.proofs.SeatLaws.{stays, gains}
 use Rattle.shr_deferred.specs.Seat.{DeferredSeated}

@@ -1,3 +1,4 @@
+-- SPDX-License-Identifier: GPL-2.0-only
 use Rattle.shr_deferred.proofs.Common.{◌≡◌, acts_of, IsAlone, left_at, take_of}
 use Rattle.shr_deferred.proofs.Steps.{with_moves}
 use Rattle.shr_deferred.proofs.table.DeferredSeat.take.Given as goal

@@ -1,3 +1,4 @@
+-- SPDX-License-Identifier: GPL-2.0-only
 use Rattle.shr_list.proofs.Common.{rules, length, ap, Scanned}
 use Rattle.shr_list.proofs.Scans.{scan_none}
 use Rattle.shr_list.proofs.contents.Contents.count_freed.Goals as goal

@@ -1,3 +1,4 @@
+-- SPDX-License-Identifier: GPL-2.0-only
 use Rattle.std.proofs.Common.{rules}
 use Rattle.shr_list.proofs.Scans.{scan_none}
 use Rattle.shr_list.proofs.contents.Contents.scan.Goals as goal

@@ -1,3 +1,4 @@
+-- SPDX-License-Identifier: GPL-2.0-only
 use Rattle.std.proofs.Common.{length-append, rules}
 use Rattle.shr_list.proofs.Keeping.{kept_moved, kept_closed}
 use Rattle.shr_list.proofs.list.List.close_into.Goals as goal

@@ -1,3 +1,4 @@
+-- SPDX-License-Identifier: GPL-2.0-only
 use Rattle.std.proofs.Common.{refl, rules}
 use Rattle.shr_list.specs.Answers.{drain_entry}
 use Rattle.shr_list.proofs.Keeping.{kept_taken}

@@ -1,3 +1,4 @@
+-- SPDX-License-Identifier: GPL-2.0-only
 use Rattle.shr_list.proofs.Common.{◌≡◌, ◌≢◌, Bool, true, false, Option, Some, None, refl, rules, if◌then◌else◌, Object, named_in, length_after_drop, loose_of}
 use Rattle.shr_base.specs.declared.journals.DropKind.TheVariants.{Dropped, Pinned, Miss}
 use Rattle.shr_model.specs.Items.{drop_kind_of}

@@ -1,3 +1,4 @@
+-- SPDX-License-Identifier: GPL-2.0-only
 use Rattle.shr_list.proofs.Common.{◌≡◌, Option, Some, None, is_some, refl, rules, option_map, Object, is_named, named_in, marked_object, length_change_first, is_some_find}
 use Rattle.shr_list.specs.Answers.{look_entry}
 use Rattle.shr_list.proofs.Keeping.{kept_taken}

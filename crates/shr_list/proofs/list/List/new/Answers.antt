@@ -1,3 +1,4 @@
+-- SPDX-License-Identifier: GPL-2.0-only
 use Rattle.std.proofs.Common.{arith, refl}
 use Rattle.shr_model.proofs.ItemsLaws.{HasJournal_none}
 use Rattle.shr_list.proofs.list.List.new.Goals as goal

@@ -1,3 +1,4 @@
+-- SPDX-License-Identifier: GPL-2.0-only
 use Rattle.shr_list.proofs.Common.{◌≡◌, List, [], length, refl, ap, arith, rules, Object, Scanned, length_scan, visits_within, scan_parts}
 use Rattle.shr_list.specs.Answers.{scan_entry}
 use Rattle.shr_list.proofs.Keeping.{kept_taken}

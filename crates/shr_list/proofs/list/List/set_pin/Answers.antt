@@ -1,3 +1,4 @@
+-- SPDX-License-Identifier: GPL-2.0-only
 use Rattle.shr_list.proofs.Common.{refl, rules, is_named, pinned_object, length_change_first}
 use Rattle.shr_list.specs.Answers.{pin_entry}
 use Rattle.shr_list.proofs.Keeping.{kept_taken}

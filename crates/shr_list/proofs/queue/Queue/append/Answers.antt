@@ -1,3 +1,4 @@
+-- SPDX-License-Identifier: GPL-2.0-only
 use Rattle.shr_list.proofs.Common.{◌≡◌, ◌∷◌, ◌++◌, [], ◌∙◌, ap, refl, true, false, rules, List, map-append, Keyed, keys_of, objects_of, name_by, AdmitsName, holds, fresh}
 use Rattle.shr_list.proofs.Indexed.{off_unheld, none_at, held_found}
 use Rattle.shr_list.proofs.Slots.{keys_kept, keys_pushed, kept_itself}

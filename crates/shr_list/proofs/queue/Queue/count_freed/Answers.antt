@@ -1,3 +1,4 @@
+-- SPDX-License-Identifier: GPL-2.0-only
 use Rattle.shr_list.proofs.Common.{◌≡◌, ◌+◌, ◌-◌, ◌<◌, ◌≤◌, min, length, arith, rules, drop_all, length-map, Keyed, objects_of, length-drop}
 use Rattle.shr_list.proofs.Walks.{here, is_at, past}
 use Rattle.shr_list.proofs.Counting.{counting_removed, counting_skipped, counting_rotated, counting_rotated_last, counting_stopped, counting_ends}

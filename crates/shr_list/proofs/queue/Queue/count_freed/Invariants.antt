@@ -1,3 +1,4 @@
+-- SPDX-License-Identifier: GPL-2.0-only
 use Rattle.shr_list.proofs.Common.{◌≡◌, ◌+◌, ◌≤◌, objects_of, key_at}
 use Rattle.shr_list.proofs.Counting.{IsCounting}
 use Rattle.shr_list.proofs.queue.Queue.count_freed.Given as goal

@@ -1,3 +1,4 @@
+-- SPDX-License-Identifier: GPL-2.0-only
 use Rattle.shr_list.proofs.Common.{ap, sym, subst, Queued, IsAt, KnowsNames, name_by}
 use Rattle.shr_list.proofs.queue.Queue.free.Goals as goal
 

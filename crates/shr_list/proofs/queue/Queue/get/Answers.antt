@@ -1,3 +1,4 @@
+-- SPDX-License-Identifier: GPL-2.0-only
 use Rattle.shr_list.proofs.Common.{◌≡◌, ◌∙◌, sym, ap, Some, None, rules, is_named, find_none, key_named, objects_of}
 use Rattle.shr_list.proofs.Indexed.{found_at, none_at}
 use Rattle.shr_list.proofs.queue.Queue.get.Goals as goal

@@ -1,3 +1,4 @@
+-- SPDX-License-Identifier: GPL-2.0-only
 use Rattle.shr_list.proofs.Common.{◌∙◌, ap, is_some}
 use Rattle.shr_list.proofs.Indexed.{held_at}
 use Rattle.shr_list.proofs.queue.Queue.holds.Goals as goal

@@ -1,3 +1,4 @@
+-- SPDX-License-Identifier: GPL-2.0-only
 use Rattle.shr_list.proofs.Common.{◌≡◌, ◌∷◌, [], take, drop, ◌+◌, None, true, rules, subst, is_some, AllByRecursion, Object, Keyed, in_nodes, name_by, name_in}
 use Rattle.shr_list.proofs.Paths.{all_append, all_right}
 use Rattle.shr_list.proofs.Walks.{here, is_at}

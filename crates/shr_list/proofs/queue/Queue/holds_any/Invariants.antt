@@ -1,3 +1,4 @@
+-- SPDX-License-Identifier: GPL-2.0-only
 use Rattle.shr_list.proofs.Common.{◌≡◌, take, key_at, AreNewNames}
 use Rattle.shr_list.proofs.queue.Queue.holds_any.Given as goal
 

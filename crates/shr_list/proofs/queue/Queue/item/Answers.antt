@@ -1,3 +1,4 @@
+-- SPDX-License-Identifier: GPL-2.0-only
 use Rattle.std.proofs.Common.{Some, ap, sym, ◌∙◌}
 use Rattle.shr_list.proofs.Walks.{here, is_at, none_got}
 use Rattle.shr_list.proofs.queue.Queue.item.Goals as goal

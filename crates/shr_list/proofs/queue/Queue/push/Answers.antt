@@ -1,3 +1,4 @@
+-- SPDX-License-Identifier: GPL-2.0-only
 use Rattle.shr_list.proofs.Slots.{keys_same}
 use Rattle.shr_list.proofs.queue.Queue.push.Goals as goal
 

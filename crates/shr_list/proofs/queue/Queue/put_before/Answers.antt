@@ -1,3 +1,4 @@
+-- SPDX-License-Identifier: GPL-2.0-only
 use Rattle.shr_list.proofs.Common.{◌++◌, KnowsNames, EntersNodes}
 use Rattle.shr_list.proofs.Splicing.{knows_before, take_front}
 use Rattle.shr_list.proofs.queue.Queue.put_before.Goals as goal

@@ -1,3 +1,4 @@
+-- SPDX-License-Identifier: GPL-2.0-only
 use Rattle.shr_list.proofs.Common.{◌++◌, KnowsNames}
 use Rattle.shr_list.proofs.Splicing.{knows_behind}
 use Rattle.shr_list.proofs.queue.Queue.put_behind.Goals as goal

@@ -1,3 +1,4 @@
+-- SPDX-License-Identifier: GPL-2.0-only
 use Rattle.shr_list.proofs.Common.{sym, subst, refl, false, Queued, IsAt, with_mark}
 use Rattle.shr_list.proofs.Known.{knows_rotated}
 use Rattle.shr_list.proofs.queue.Queue.rotate.Goals as goal

@@ -1,3 +1,4 @@
+-- SPDX-License-Identifier: GPL-2.0-only
 use Rattle.shr_list.proofs.Common.{◌≡◌, ◌∙◌, sym, ap, Some, None, rules, refl, is_named, pinned_object, change_first_none, key_named, objects_of}
 use Rattle.shr_list.proofs.Slots.{keys_changed, keys_kept, kept_itself}
 use Rattle.shr_list.proofs.Indexed.{found_at, none_at}

@@ -1,3 +1,4 @@
+-- SPDX-License-Identifier: GPL-2.0-only
 use Rattle.shr_list.proofs.Common.{◌≡◌, ◌∙◌, sym, ap, true, false, Some, None, rules, refl, is_named, find_none, key_named, keys_of, objects_of}
 use Rattle.shr_list.proofs.Slots.{keys_whole, keys_same, nodes_removed}
 use Rattle.shr_list.proofs.Indexed.{found_at, none_at}

@@ -1,3 +1,4 @@
+-- SPDX-License-Identifier: GPL-2.0-only
 use Rattle.shr_list.proofs.Common.{◌≡◌, ◌∙◌, sym, subst, ap, arith, rules, true, false, length, length-append, None, Some, Option, ℕ, List, [], ◌∷◌, ◌++◌, ◌+◌, ◌≤◌, refl, Object, scan_of, unmarked_object, AreNodesKept}
 use Rattle.shr_base.specs.declared.objects.LruStatus.{LruStatus}
 use Rattle.shr_list.specs.Scanning.{IsLeftAlone}

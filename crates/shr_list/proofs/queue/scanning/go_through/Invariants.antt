@@ -1,3 +1,4 @@
+-- SPDX-License-Identifier: GPL-2.0-only
 use Rattle.shr_list.proofs.Common.{◌≡◌, ◌+◌, ◌≤◌, true, false, [], length, scan_of, IsQueueWhole, AreNodesKept}
 use Rattle.shr_list.proofs.Scans.{IsScanning}
 use Rattle.shr_list.proofs.queue.scanning.go_through.Given as goal

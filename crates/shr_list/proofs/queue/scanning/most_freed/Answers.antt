@@ -1,3 +1,4 @@
+-- SPDX-License-Identifier: GPL-2.0-only
 use Rattle.std.proofs.Common.{arith, rules}
 use Rattle.shr_model.proofs.ScanLaws.{freed_asked, freed_there}
 use Rattle.shr_list.proofs.queue.scanning.most_freed.Goals as goal

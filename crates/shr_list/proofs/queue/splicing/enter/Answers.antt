@@ -1,3 +1,4 @@
+-- SPDX-License-Identifier: GPL-2.0-only
 use Rattle.shr_list.proofs.Common.{◌<◌, length, take, arith, rules, subst, Object, MovesName, name_by}
 use Rattle.shr_list.proofs.Walks.{here, is_at, past}
 use Rattle.shr_list.proofs.Splicing.{enters_none, enters_one}

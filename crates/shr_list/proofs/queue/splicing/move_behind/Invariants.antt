@@ -1,3 +1,4 @@
+-- SPDX-License-Identifier: GPL-2.0-only
 use Rattle.shr_list.proofs.Common.{◌≡◌, ◌≤◌, ◌++◌, List, length, Keyed, objects_of, EntersNodes}
 use Rattle.shr_list.proofs.queue.splicing.move_behind.Given as goal
 

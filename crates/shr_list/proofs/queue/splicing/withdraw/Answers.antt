@@ -1,3 +1,4 @@
+-- SPDX-License-Identifier: GPL-2.0-only
 use Rattle.shr_list.proofs.Common.{◌<◌, length, take, None, arith, rules, subst, Object, TurnsName, name_by}
 use Rattle.shr_list.proofs.Walks.{here, is_at, past}
 use Rattle.shr_list.proofs.Splicing.{withdraws_none, withdraws_one}

@@ -1,3 +1,4 @@
+-- SPDX-License-Identifier: GPL-2.0-only
 use Rattle.shr_list.proofs.Common.{◌≡◌, take, key_at, Withdraws}
 use Rattle.shr_list.proofs.queue.splicing.withdraw.Given as goal
 

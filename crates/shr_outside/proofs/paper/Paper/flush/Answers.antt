@@ -1,3 +1,4 @@
+-- SPDX-License-Identifier: GPL-2.0-only
 use Rattle.std.proofs.Common.{sym, refl}
 use Rattle.shr_outside.specs.Paper.{IsLeft}
 use Rattle.shr_outside.proofs.paper.Paper.flush.Goals as goal

@@ -1,3 +1,4 @@
+-- SPDX-License-Identifier: GPL-2.0-only
 use Rattle.shr_plain.proofs.Common.{sym, ap, UnitSeat, subst, ◌∙◌, ℕ, Bool, arith, Place, Grab, Makes, lt-ltb, le-ltb, GrabGives, ActsPlain}
 use Rattle.shr_base.specs.declared.replies.Spent.TheVariants as spent
 use Rattle.shr_plain.specs.declared.answers.GrabAnswer.TheVariants as answered

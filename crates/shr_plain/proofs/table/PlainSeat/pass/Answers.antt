@@ -1,3 +1,4 @@
+-- SPDX-License-Identifier: GPL-2.0-only
 use Rattle.shr_plain.proofs.Common.{◌≡◌, ℕ, sym, subst, ◌∙◌, List, Place, MatchPass, Scans, asks_due, ScanAnswer, ScanSeen, TellsUnits, scans_of, part_of, setting_of, home_place, room_of, PassGives, Setting, ActsPlain, plain_seated}
 use Rattle.shr_plain.proofs.Passing.{pass_gives}
 use Rattle.shr_plain.proofs.SeatLaws.{at_row}

@@ -1,3 +1,4 @@
+-- SPDX-License-Identifier: GPL-2.0-only
 use Rattle.shr_plain.proofs.Common.{sym, ap, UnitSeat, ◌∙◌, ℕ, arith, Place, Release, ReleaseGives, ActsPlain}
 use Rattle.shr_base.specs.declared.replies.Spent.TheVariants as spent
 use Rattle.shr_plain.specs.declared.answers.ReleaseAnswer.TheVariants as answered

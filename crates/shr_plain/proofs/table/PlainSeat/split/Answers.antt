@@ -1,3 +1,4 @@
+-- SPDX-License-Identifier: GPL-2.0-only
 use Rattle.shr_plain.proofs.Common.{◌≡◌, true, subst, sym, refl, ◌∙◌, ap, row_count, units, room_journal, parts_in, units_standing_in, spent_units_view, with_parts, split_units_view, new_units_view, PlainSeated, DeferredSeated}
 use Rattle.shr_seats.proofs.RoomSteps.{splits}
 use Rattle.shr_plain.proofs.SeatLaws.{has_words, split_is}

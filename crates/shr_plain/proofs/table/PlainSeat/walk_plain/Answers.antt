@@ -1,3 +1,4 @@
+-- SPDX-License-Identifier: GPL-2.0-only
 use Rattle.shr_plain.proofs.Common.{◌≡◌, ℕ, ◌∷◌, ◌++◌, List, [], length, refl, ap, subst, ◌∙◌, arith, AreTried, ActsPlain, PlainSeated, PlainWalk, plain_seated}
 use Rattle.std.specs.Prelude.{◌-◌}
 use Rattle.shr_plain.proofs.Trying.{walk_acts}

@@ -1,3 +1,4 @@
+-- SPDX-License-Identifier: GPL-2.0-only
 use Rattle.shr_plain.proofs.Common.{◌≤◌, length, ap, sym, subst, ◌∙◌, arith, sum_by, All, length_push, PlainTry, TryHadMemory, units_freed, All-push}
 use Rattle.std.proofs.lemmas.List.Sums.{sum_by_push}
 use Rattle.shr_plain.proofs.Trying.{few_freed, acts_push}

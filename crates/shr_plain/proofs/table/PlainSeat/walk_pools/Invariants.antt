@@ -1,3 +1,4 @@
+-- SPDX-License-Identifier: GPL-2.0-only
 use Rattle.shr_plain.proofs.Common.{◌≡◌, ◌+◌, ◌*◌, ◌≤◌, length, sum_by, All, ActsPlain, AreTried, TryHadMemory, units_freed}
 use Rattle.shr_plain.proofs.table.PlainSeat.walk_pools.Given as goal
 

@@ -1,3 +1,4 @@
+-- SPDX-License-Identifier: GPL-2.0-only
 use Rattle.shr_plain.proofs.Common.{◌+◌, ◌*◌, ◌%◌, ◌/◌, ◌^◌, subst, sym, Allows, Sizes, IsPools, Counts}
 use Rattle.shr_plain.proofs.Holding.{pools_loads}
 use Rattle.shr_plain.proofs.table.Pools.count.Goals as goal

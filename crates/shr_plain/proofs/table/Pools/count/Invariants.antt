@@ -1,3 +1,4 @@
+-- SPDX-License-Identifier: GPL-2.0-only
 use Rattle.shr_plain.proofs.Common.{◌%◌, ◌/◌, ◌^◌, Counts}
 use Rattle.shr_plain.proofs.table.Pools.count.Given as goal
 

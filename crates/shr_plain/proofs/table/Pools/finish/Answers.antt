@@ -1,3 +1,4 @@
+-- SPDX-License-Identifier: GPL-2.0-only
 use Rattle.shr_plain.proofs.Common.{ap, subst, ◌∙◌, slots_items, Final, Seen, Sizes, entries_at, IsPools}
 use Rattle.shr_plain.specs.Seat.{first_plain}
 use Rattle.shr_deferred.specs.Left.{left_over}

@@ -1,3 +1,4 @@
+-- SPDX-License-Identifier: GPL-2.0-only
 use Rattle.shr_plain.proofs.Common.{◌≡◌, ℕ, ◌*◌, List, [], ◌∷◌, ap, subst, sym, ◌∙◌, Allows, rest, Sizes, with_room_given, Slot, IsPools, with_part, part_of, UnitsSat, UnitSeat}
 use Rattle.shr_plain.proofs.Holding.{pools_unlocks}
 use Rattle.shr_plain.proofs.SeatLaws.{became, like}

@@ -1,3 +1,4 @@
+-- SPDX-License-Identifier: GPL-2.0-only
 use Rattle.shr_plain.proofs.Common.{◌≡◌, [], with_room_given, with_part, part_of}
 use Rattle.shr_plain.proofs.table.Pools.give.Given as goal
 

@@ -1,3 +1,4 @@
+-- SPDX-License-Identifier: GPL-2.0-only
 use Rattle.shr_plain.proofs.Common.{ℕ, ◌*◌, ap, sym, subst, refl, ◌∙◌, length, arith, All, row_count, Sizes, setting_by, IsSetting, units, room_journal, parts_in, units_standing_in, spent_units_view, replicate, length-map, length-replicate, All-map, first_units_view}
 use Rattle.shr_seats.proofs.RoomOpenings.{opened}
 use Rattle.shr_plain.proofs.Beginnings.{ids_some, ids_all, ids_few}

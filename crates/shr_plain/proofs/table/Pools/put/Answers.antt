@@ -1,3 +1,4 @@
+-- SPDX-License-Identifier: GPL-2.0-only
 use Rattle.shr_plain.proofs.Common.{refl, with_part, part_of, with_room_given, [], ◌∷◌, ◌++◌, List, ap, sym, subst, ◌∙◌, length, arith, PlainEntry, IsPlainEntry, UnitsSat, UnitSeat, length-append}
 use Rattle.shr_plain.proofs.Holding.{stored_in_hand, stored_hand, stored_given}
 use Rattle.shr_plain.proofs.table.Pools.put.Goals as goal

@@ -1,3 +1,4 @@
+-- SPDX-License-Identifier: GPL-2.0-only
 use Rattle.shr_plain.proofs.Common.{◌≡◌, ◌+◌, ◌*◌, subst, sym, refl, ap, ◌∙◌, arith, length, Allows, free_of, Sizes, with_room_stored, IsPools, units, room_journal, parts_in, units_standing_in, spent_units_view, with_parts, with_part, part_of, row_count}
 use Rattle.shr_seats.proofs.RoomSteps.{stores}
 use Rattle.shr_plain.proofs.SeatLaws.{became}

@@ -1,3 +1,4 @@
+-- SPDX-License-Identifier: GPL-2.0-only
 use Rattle.shr_plain.proofs.Common.{◌≡◌, with_room_stored, with_part, part_of}
 use Rattle.shr_plain.proofs.table.Pools.store.Given as goal
 

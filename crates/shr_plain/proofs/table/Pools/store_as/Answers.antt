@@ -1,3 +1,4 @@
+-- SPDX-License-Identifier: GPL-2.0-only
 use Rattle.shr_plain.proofs.SeatLaws.{like}
 use Rattle.shr_plain.proofs.table.Pools.store_as.Goals as goal
 

@@ -1,3 +1,4 @@
+-- SPDX-License-Identifier: GPL-2.0-only
 use Rattle.shr_plain.proofs.Common.{ℕ, List, ◌∷◌, ap, sym, ◌∙◌, rest, Slot, UnitsSat, UnitSeat}
 use Rattle.shr_plain.proofs.Holding.{has_room}
 use Rattle.shr_plain.proofs.SeatLaws.{like}

@@ -1,3 +1,4 @@
+-- SPDX-License-Identifier: GPL-2.0-only
 use Rattle.std.proofs.Common.{◌≡◌}
 use Rattle.shr_plain.proofs.table.Pools.take.Given as goal
 

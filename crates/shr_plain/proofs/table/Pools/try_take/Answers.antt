@@ -1,3 +1,4 @@
+-- SPDX-License-Identifier: GPL-2.0-only
 use Rattle.shr_plain.proofs.Common.{◌≡◌, ◌≢◌, ◌*◌, eqb, subst, sym, Allows, Sizes, IsPools, TakesUnitsRoom}
 use prog.Atomic.{either}
 use Rattle.shr_plain.proofs.Holding.{pools_locks, tried}

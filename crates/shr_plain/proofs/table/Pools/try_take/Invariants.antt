@@ -1,3 +1,4 @@
+-- SPDX-License-Identifier: GPL-2.0-only
 use Rattle.shr_plain.proofs.Common.{◌≡◌, ◌≢◌, TakesUnitsRoom}
 use Rattle.shr_plain.proofs.table.Pools.try_take.Given as goal
 

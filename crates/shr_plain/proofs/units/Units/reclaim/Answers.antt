@@ -1,3 +1,4 @@
+-- SPDX-License-Identifier: GPL-2.0-only
 use Rattle.shr_plain.proofs.Common.{sym, ap, ◌∙◌, arith, UnitSeat}
 use Rattle.shr_plain.proofs.Holding.{in_hand, hand_is, looked, put}
 use Rattle.shr_plain.proofs.SeatLaws.{worn_is, same_then}

@@ -1,3 +1,4 @@
+-- SPDX-License-Identifier: GPL-2.0-only
 use Rattle.shr_plain.proofs.Common.{ap, arith, UnitSeat}
 use Rattle.shr_plain.proofs.Scanning.{kind_empty, kind_skip, kind_many, count_keeps, count_more, count_scans, count_low}
 use Rattle.shr_plain.proofs.units.UnitsShrinker.count.Goals as goal

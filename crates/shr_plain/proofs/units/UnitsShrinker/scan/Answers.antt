@@ -1,3 +1,4 @@
+-- SPDX-License-Identifier: GPL-2.0-only
 use Rattle.shr_plain.proofs.Common.{ap, UnitSeat}
 use Rattle.shr_plain.proofs.Scanning.{scan_keeps, scan_more, scan_counts, scan_tells}
 use Rattle.shr_plain.proofs.units.UnitsShrinker.scan.Goals as goal

@@ -1,3 +1,4 @@
+-- SPDX-License-Identifier: GPL-2.0-only
 use Rattle.shr_pool.proofs.Common.{ap, ◌∙◌, ◌++◌, ◌∷◌, [], length, arith, Walk, SweepJob, PassView, filling, with_push}
 use Rattle.shr_pool.proofs.Filling.{walks, length_walks, length_line, next_walk}
 use Rattle.shr_pool.proofs.Keeping.{begins}

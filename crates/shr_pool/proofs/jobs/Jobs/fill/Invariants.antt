@@ -1,3 +1,4 @@
+-- SPDX-License-Identifier: GPL-2.0-only
 use Rattle.shr_pool.proofs.Common.{◌≡◌, ◌++◌, map, replicate, range_with_len, Walk, End, job_at, table_jobs, filling}
 use Rattle.crossbeam_queue.specs.Passes.{view, IsPassOf}
 use Rattle.shr_pool.proofs.jobs.Jobs.fill.Given as goal

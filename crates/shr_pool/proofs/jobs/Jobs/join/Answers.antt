@@ -1,3 +1,4 @@
+-- SPDX-License-Identifier: GPL-2.0-only
 use Rattle.shr_pool.proofs.Common.{ap, sym, subst, ◌∙◌, IsWhole, total, PassView, ArePopped, IsQueueShown, SweepItem, ◌≡◌, List}
 use Rattle.shr_pool.proofs.Working.{worked}
 use Rattle.shr_pool.proofs.Once.{each_once}

@@ -1,3 +1,4 @@
+-- SPDX-License-Identifier: GPL-2.0-only
 use Rattle.shr_pool.proofs.Keeping.{forks}
 use Rattle.shr_pool.proofs.jobs.Jobs.pass.Goals as goal
 

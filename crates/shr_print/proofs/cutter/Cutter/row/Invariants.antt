@@ -1,3 +1,4 @@
+-- SPDX-License-Identifier: GPL-2.0-only
 use Rattle.std.proofs.Common.{◌≡◌, ◌+◌}
 use Rattle.shr_print.specs.Cuts.{IsCutTo}
 use Rattle.shr_print.proofs.cutter.Cutter.row.Given as goal

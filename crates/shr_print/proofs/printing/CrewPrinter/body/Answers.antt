@@ -1,3 +1,4 @@
+-- SPDX-License-Identifier: GPL-2.0-only
 use Rattle.shr_outside.proofs.Printing.{prints_as}
 use Rattle.shr_print.proofs.Bodies.{body_text, body_known}
 use Rattle.shr_print.proofs.printing.CrewPrinter.body.Goals as goal

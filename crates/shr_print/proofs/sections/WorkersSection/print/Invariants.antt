@@ -1,3 +1,4 @@
+-- SPDX-License-Identifier: GPL-2.0-only
 use Rattle.std.specs.List.{AllByRecursion}
 use Rattle.shr_outside.specs.Paper.{Prints}
 use Rattle.shr_laws.specs.Lines.{numbered}

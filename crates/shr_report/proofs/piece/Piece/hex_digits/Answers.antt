@@ -1,3 +1,4 @@
+-- SPDX-License-Identifier: GPL-2.0-only
 use Rattle.shr_report.proofs.Common.{sym, ap, ◌∙◌, ◌++◌, ◌-◌, ◌/◌, arith, codes, hex_digits}
 use Rattle.shr_report.proofs.HexLaws.{hex_next, hex_done, hex_low}
 use Rattle.shr_report.proofs.piece.Piece.hex_digits.Goals as goal

@@ -1,3 +1,4 @@
+-- SPDX-License-Identifier: GPL-2.0-only
 use Rattle.shr_report.proofs.Common.{◌≡◌, ◌≤◌, ◌+◌, ◌++◌, drop, hex, hex_digits}
 use Rattle.shr_report.proofs.piece.Piece.hex_digits.Given as goal
 

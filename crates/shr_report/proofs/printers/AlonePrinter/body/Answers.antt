@@ -1,3 +1,4 @@
+-- SPDX-License-Identifier: GPL-2.0-only
 use Rattle.shr_report.proofs.Common.{◌++◌, flat_map, prints_both, numbered, worker_lines, place_lines, use_line}
 use Rattle.shr_report.specs.Body.{between_lines}
 use Rattle.shr_report.proofs.printers.AlonePrinter.body.Goals as goal

@@ -1,3 +1,4 @@
+-- SPDX-License-Identifier: GPL-2.0-only
 use Rattle.shr_tree.proofs.Common.{◌≡◌, ◌++◌, ◌∷◌, [], map, get_or, set, ap, ◌∙◌, List, ℕ, ChildrenOfAll}
 use Rattle.shr_tree.proofs.ChildrenLaws.{seen_at, seen_more, seen_within}
 use Rattle.shr_tree.proofs.children.Children.add.Goals as goal

@@ -1,3 +1,4 @@
+-- SPDX-License-Identifier: GPL-2.0-only
 use Rattle.shr_tree.proofs.Common.{◌≡◌, map, arith, ap, ◌∙◌, ChildrenOfAll}
 use Rattle.shr_tree.proofs.ChildrenLaws.{unseen_write, seen_write, seen_within}
 use Rattle.shr_tree.proofs.children.Children.reserve.Goals as goal

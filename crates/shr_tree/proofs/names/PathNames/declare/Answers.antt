@@ -1,3 +1,4 @@
+-- SPDX-License-Identifier: GPL-2.0-only
 use Rattle.shr_tree.proofs.Common.{◌≡◌, ◌∙◌, refl, map, None, place_of}
 use Rattle.shr_words.proofs.NamesLaws.{inserted_last}
 use Rattle.shr_tree.proofs.names.PathNames.declare.Goals as goal

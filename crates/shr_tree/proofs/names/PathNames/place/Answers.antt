@@ -1,3 +1,4 @@
+-- SPDX-License-Identifier: GPL-2.0-only
 use Rattle.shr_tree.proofs.Common.{◌∙◌, ap, Word, place_of, List}
 use Rattle.shr_words.proofs.NamesLaws.{position_is}
 use Rattle.shr_tree.proofs.names.PathNames.place.Goals as goal

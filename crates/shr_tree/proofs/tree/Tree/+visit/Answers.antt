@@ -1,3 +1,4 @@
+-- SPDX-License-Identifier: GPL-2.0-only
 use Rattle.shr_tree.proofs.Common.{◌≡◌, ◌++◌, ◌∷◌, [], length, get_or, ℕ, List, arith, ap, sym, ◌∙◌, flat_map, children_of, preorder_of, append_assoc, take_all}
 use Rattle.shr_model.proofs.GroupsLaws.{child_listed, child_higher, preorder_of-group}
 use Rattle.shr_tree.proofs.TreeLaws.{within, children_at, is_tree}

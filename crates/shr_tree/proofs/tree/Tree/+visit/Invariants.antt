@@ -1,3 +1,4 @@
+-- SPDX-License-Identifier: GPL-2.0-only
 use Rattle.shr_tree.proofs.Common.{◌≡◌, ◌++◌, ◌∷◌, [], length, take, flat_map, preorder_of, ◌-◌}
 use Rattle.shr_tree.proofs.tree.Tree.+visit.Given as goal
 

@@ -1,3 +1,4 @@
+-- SPDX-License-Identifier: GPL-2.0-only
 use Rattle.shr_tree.proofs.Common.{◌≡◌, ◌<◌, get_or, false, None, List, arith, ap, ◌∙◌, depth_of, parent_of, Group}
 use Rattle.shr_model.proofs.GroupsLaws.{depth_of-root, depth_of-below, depth_of-le}
 use Rattle.shr_tree.proofs.TreeLaws.{is_tree, parent_at, few_groups}

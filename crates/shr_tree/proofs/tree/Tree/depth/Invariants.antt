@@ -1,3 +1,4 @@
+-- SPDX-License-Identifier: GPL-2.0-only
 use Rattle.std.proofs.Common.{◌≡◌, ◌+◌, ◌<◌, length}
 use Rattle.shr_model.specs.Trees.{depth_of}
 use Rattle.shr_tree.proofs.tree.Tree.depth.Given as goal

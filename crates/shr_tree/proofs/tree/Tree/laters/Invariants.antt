@@ -1,3 +1,4 @@
+-- SPDX-License-Identifier: GPL-2.0-only
 use Rattle.shr_tree.proofs.Common.{◌≡◌, map, take, Group}
 use Rattle.shr_tree.proofs.tree.Tree.laters.Given as goal
 

@@ -1,3 +1,4 @@
+-- SPDX-License-Identifier: GPL-2.0-only
 use Rattle.shr_tree.proofs.Common.{◌≡◌, preorder_of}
 use Rattle.shr_tree.proofs.TreeLaws.{is_tree, is_subtree}
 use Rattle.shr_tree.proofs.tree.Tree.preorder.Goals as goal

@@ -1,3 +1,4 @@
+-- SPDX-License-Identifier: GPL-2.0-only
 use Rattle.shr_tree.proofs.Common.{◌++◌, ◌∷◌, [], List, ap, ◌∙◌, Group, IsTreeWhole}
 use Rattle.shr_tree.proofs.TreeLaws.{within, whole_grown, groups_long, paths_long, holds_kept}
 use Rattle.shr_tree.proofs.tree.Tree.put.Goals as goal

@@ -1,3 +1,4 @@
+-- SPDX-License-Identifier: GPL-2.0-only
 use Rattle.shr_trials.proofs.Common.{◌≡◌}
 use Rattle.shr_trials.proofs.desk.Desk.first_unlike.Given as goal
 

@@ -1,3 +1,4 @@
+-- SPDX-License-Identifier: GPL-2.0-only
 use Rattle.shr_walk.proofs.Common.{rules, refl, ℕ, ◌*◌, ◌≤◌, length, sym, AreBorn, groups_in, IsPlaceOfShape, ap, subst, ◌∙◌, arith, [], ◌+◌, ◌<◌, ◌^◌, place_number, depth_of, scan_entry, view_of, shape_of, uses_of, List, Object, UseStep, keeps_refl, AllUncharged}
 use Rattle.shr_walk.proofs.Freeing.{few}
 use Rattle.shr_core.specs.declared.table.Core.{Core}

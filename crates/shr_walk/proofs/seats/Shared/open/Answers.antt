@@ -1,3 +1,4 @@
+-- SPDX-License-Identifier: GPL-2.0-only
 use Rattle.shr_walk.proofs.Common.{◌<◌, sym, ap, subst, ◌∙◌, Sizes, groups_of, ChargeSeated}
 use Rattle.shr_walk.proofs.Opened.{is_shape, has_limits, has_root}
 use Rattle.shr_walk.proofs.seats.Shared.open.Goals as goal

@@ -1,3 +1,4 @@
+-- SPDX-License-Identifier: GPL-2.0-only
 use Rattle.shr_walk.proofs.Common.{[], ◌∷◌, ◌++◌, ap, subst, ◌∙◌, Acting, Does, state_of, record_of, walk_work}
 use Rattle.shr_base.specs.KeptLists.{kept}
 use Rattle.shr_base.specs.Walks.{WalkRecord}

@@ -1,3 +1,4 @@
+-- SPDX-License-Identifier: GPL-2.0-only
 use Rattle.shr_core.specs.Seats.{view_of}
 use Rattle.shr_walk_trials.proofs.Seating.{holder_still, kept_call}
 use Rattle.shr_walk_trials.proofs.desk.lists.drop_key.Goals as goal

@@ -1,3 +1,4 @@
+-- SPDX-License-Identifier: GPL-2.0-only
 use Rattle.shr_core.specs.Seats.{shape_of, view_of}
 use Rattle.shr_walk_trials.proofs.Seating.{seated, leaves_unregister}
 use Rattle.shr_walk_trials.proofs.desk.registrations.unregister.Goals as goal

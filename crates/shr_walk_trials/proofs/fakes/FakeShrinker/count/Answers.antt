@@ -1,3 +1,4 @@
+-- SPDX-License-Identifier: GPL-2.0-only
 use Rattle.shr_walk_trials.proofs.Faking.{if_empty, counted_more, counted_none, counted_stays}
 use Rattle.shr_walk_trials.proofs.fakes.FakeShrinker.count.Goals as goal
 

@@ -1,3 +1,4 @@
+-- SPDX-License-Identifier: GPL-2.0-only
 use Rattle.shr_words.proofs.PathLaws.{found_is_path}
 use Rattle.shr_words.proofs.groups.Paths.place.Goals as goal
 

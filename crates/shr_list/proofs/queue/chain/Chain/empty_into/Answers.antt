@@ -1,3 +1,4 @@
+-- SPDX-License-Identifier: GPL-2.0-only
 use Rattle.shr_list.proofs.Common.{◌≡◌, ◌++◌, ◌∷◌, [], List, length, Option, ℕ, None, Some, arith, rules, ap, sym, subst, refl, ◌∙◌, append_assoc, append-nil, IsApart, Keyed, objects_of, nodes_of, stops_of, Node}
 use Rattle.shr_list.proofs.Emptied.{Leads, leads_path, leads_kept, leads_some, leads_none, linked_none}
 use Rattle.shr_list.proofs.queue.chain.Chain.empty_into.Goals as goal

@@ -1,3 +1,4 @@
+-- SPDX-License-Identifier: GPL-2.0-only
 use Rattle.shr_list.proofs.Common.{◌≡◌, ◌≤◌, ◌++◌, List, length, slab_len, IsApart, Keyed, objects_of, nodes_of, stops_of}
 use Rattle.shr_list.proofs.Emptied.{Leads}
 use Rattle.shr_list.proofs.queue.chain.Chain.empty_into.Given as goal

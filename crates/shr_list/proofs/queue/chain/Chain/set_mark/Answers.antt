@@ -1,3 +1,4 @@
+-- SPDX-License-Identifier: GPL-2.0-only
 use Rattle.shr_list.proofs.Common.{refl, with_mark}
 use Rattle.shr_list.proofs.Chains.{writes_object}
 use Rattle.shr_list.proofs.queue.chain.Chain.set_mark.Goals as goal

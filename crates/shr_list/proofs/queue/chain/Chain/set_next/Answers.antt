@@ -1,3 +1,4 @@
+-- SPDX-License-Identifier: GPL-2.0-only
 use Rattle.std.proofs.Common.{refl}
 use Rattle.shr_list.proofs.Chains.{writes_next}
 use Rattle.shr_list.proofs.queue.chain.Chain.set_next.Goals as goal

@@ -1,3 +1,4 @@
+-- SPDX-License-Identifier: GPL-2.0-only
 use Rattle.shr_list.proofs.Common.{refl, pinned_object}
 use Rattle.shr_list.proofs.Chains.{writes_object}
 use Rattle.shr_list.proofs.queue.chain.Chain.set_pin.Goals as goal

@@ -1,3 +1,4 @@
+-- SPDX-License-Identifier: GPL-2.0-only
 use Rattle.std.proofs.Common.{refl}
 use Rattle.shr_list.proofs.Chains.{writes_prev}
 use Rattle.shr_list.proofs.queue.chain.Chain.set_prev.Goals as goal

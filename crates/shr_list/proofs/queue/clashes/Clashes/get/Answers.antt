@@ -1,3 +1,4 @@
+-- SPDX-License-Identifier: GPL-2.0-only
 use Rattle.shr_list.proofs.Common.{◌≡◌, None, length, refl, rules, second_of, second_at}
 use Rattle.shr_list.proofs.Indexes.{lookup_none}
 use Rattle.shr_list.proofs.queue.clashes.Clashes.get.Goals as goal

@@ -1,3 +1,4 @@
+-- SPDX-License-Identifier: GPL-2.0-only
 use Rattle.shr_list.proofs.Common.{◌≡◌, ◌<◌, ◌∙◌, sym, subst, arith, rules, false, is_some, None, Name, New, Index, AddsName, IsIndexed, KnowsNames, in_nodes}
 use Rattle.shr_list.proofs.Known.{made_gains, unmade_gains}
 use Rattle.shr_model.proofs.Booleans.{none_unless}

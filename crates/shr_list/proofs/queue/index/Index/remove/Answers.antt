@@ -1,3 +1,4 @@
+-- SPDX-License-Identifier: GPL-2.0-only
 use Rattle.shr_list.proofs.Common.{◌∷◌, ◌++◌, subst, None, Index, TurnsName, IsIndexed, KnowsNames}
 use Rattle.shr_list.proofs.Known.{made_loses, unmade_loses}
 use Rattle.shr_list.proofs.queue.index.Index.remove.Goals as goal

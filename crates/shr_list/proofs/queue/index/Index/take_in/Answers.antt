@@ -1,3 +1,4 @@
+-- SPDX-License-Identifier: GPL-2.0-only
 use Rattle.shr_list.proofs.Common.{rules, AreStrangers}
 use Rattle.shr_list.proofs.Known.{unmade_takes}
 use Rattle.shr_list.proofs.queue.index.Index.take_in.Goals as goal

@@ -1,3 +1,4 @@
+-- SPDX-License-Identifier: GPL-2.0-only
 use Rattle.shr_list.proofs.Common.{◌∷◌, ◌++◌, subst, Some, Index, TurnsName, IsIndexed, KnowsNames}
 use Rattle.shr_list.proofs.Known.{made_moves, unmade_moves}
 use Rattle.shr_list.proofs.queue.index.Index.turn.Goals as goal

@@ -1,3 +1,4 @@
+-- SPDX-License-Identifier: GPL-2.0-only
 use Rattle.std.proofs.Common.{arith, rules}
 use Rattle.shr_list.proofs.Walks.{here, is_at, beyond}
 use Rattle.shr_list.proofs.queue.links.Links.at.Goals as goal

@@ -1,3 +1,4 @@
+-- SPDX-License-Identifier: GPL-2.0-only
 use Rattle.shr_list.proofs.Common.{◌≡◌, key_at}
 use Rattle.shr_list.proofs.queue.links.Links.at.Given as goal
 

@@ -1,3 +1,4 @@
+-- SPDX-License-Identifier: GPL-2.0-only
 use Rattle.std.proofs.Common.{[]}
 use Rattle.shr_list.proofs.Linked.{nodes_are, settled}
 use Rattle.shr_list.proofs.queue.links.Links.empty_into.Goals as goal

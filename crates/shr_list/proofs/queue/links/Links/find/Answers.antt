@@ -1,3 +1,4 @@
+-- SPDX-License-Identifier: GPL-2.0-only
 use Rattle.shr_list.proofs.Common.{◌≡◌, true, false, ◌∙◌, rules, sym, is_named}
 use Rattle.shr_list.proofs.Walks.{here, is_at, ahead_hit, ahead_miss}
 use Rattle.shr_list.proofs.queue.links.Links.find.Goals as goal

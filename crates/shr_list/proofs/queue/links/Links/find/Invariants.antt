@@ -1,3 +1,4 @@
+-- SPDX-License-Identifier: GPL-2.0-only
 use Rattle.shr_list.proofs.Common.{◌≡◌, drop, key_at, key_named}
 use Rattle.shr_list.proofs.queue.links.Links.find.Given as goal
 

@@ -1,3 +1,4 @@
+-- SPDX-License-Identifier: GPL-2.0-only
 use Rattle.shr_list.specs.Links.{IsLinked}
 use Rattle.shr_list.proofs.Linked.{head_is}
 use Rattle.shr_list.proofs.Slots.{keys_apart}

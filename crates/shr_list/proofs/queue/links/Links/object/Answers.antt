@@ -1,3 +1,4 @@
+-- SPDX-License-Identifier: GPL-2.0-only
 use Rattle.shr_list.proofs.Common.{sym, ◌∙◌, IsLinked}
 use Rattle.shr_list.proofs.Linked.{stored_here, names_at}
 use Rattle.shr_list.proofs.queue.links.Links.object.Goals as goal

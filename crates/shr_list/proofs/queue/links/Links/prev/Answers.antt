@@ -1,3 +1,4 @@
+-- SPDX-License-Identifier: GPL-2.0-only
 use Rattle.shr_list.proofs.Common.{◌∙◌, IsLinked}
 use Rattle.shr_list.proofs.Linked.{stored_here, prev_is}
 use Rattle.shr_list.proofs.queue.links.Links.prev.Goals as goal

@@ -1,3 +1,4 @@
+-- SPDX-License-Identifier: GPL-2.0-only
 use Rattle.shr_list.proofs.Common.{◌≡◌, ◌∙◌, ap, Held, IsLinked}
 use Rattle.shr_list.proofs.Linked.{nodes_are, settled, tail_stored, inserted_stop, linked_back}
 use Rattle.shr_list.proofs.queue.links.Links.push_back.Goals as goal

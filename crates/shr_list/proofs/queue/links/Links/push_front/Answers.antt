@@ -1,3 +1,4 @@
+-- SPDX-License-Identifier: GPL-2.0-only
 use Rattle.shr_list.specs.Links.{IsLinked}
 use Rattle.shr_list.proofs.Linked.{nodes_are, settled, head_stored, inserted_stop, linked_front}
 use Rattle.shr_list.proofs.queue.links.Links.push_front.Goals as goal

@@ -1,3 +1,4 @@
+-- SPDX-License-Identifier: GPL-2.0-only
 use Rattle.shr_list.proofs.Common.{◌≡◌, ◌+◌, List, ◌∷◌, ◌++◌, [], length, length-append, ap, sym, ◌∙◌, arith, rules, append_assoc, append-nil, Object, Keyed, objects_of}
 use Rattle.shr_list.proofs.Walks.{at_end, no_end}
 use Rattle.shr_list.proofs.Scans.{objects_append}

@@ -1,3 +1,4 @@
+-- SPDX-License-Identifier: GPL-2.0-only
 use Rattle.shr_list.proofs.Common.{◌≡◌, ◌≤◌, ◌++◌, List, length, Keyed, objects_of}
 use Rattle.shr_list.proofs.queue.links.Links.put_before.Given as goal
 

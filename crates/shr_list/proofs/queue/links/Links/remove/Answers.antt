@@ -1,3 +1,4 @@
+-- SPDX-License-Identifier: GPL-2.0-only
 use Rattle.shr_list.proofs.Common.{IsLinked, Joins, stop_after, prev_of, Some}
 use Rattle.shr_list.proofs.Linked.{nodes_are, settled, stored_here, prev_stop, next_stop, linked_removed, taken_is}
 use Rattle.shr_list.proofs.queue.links.Links.remove.Goals as goal

@@ -1,3 +1,4 @@
+-- SPDX-License-Identifier: GPL-2.0-only
 use Rattle.shr_list.specs.Links.{nodes_of}
 use Rattle.shr_list.proofs.Linked.{settled, linked_resized}
 use Rattle.shr_list.proofs.queue.links.Links.reserve.Goals as goal

@@ -1,3 +1,4 @@
+-- SPDX-License-Identifier: GPL-2.0-only
 use Rattle.shr_list.proofs.Common.{Some, IsLinked, Joins, stop_after, prev_of}
 use Rattle.shr_list.proofs.Linked.{nodes_are, settled, stored_here, prev_stop, next_stop, tail_left, linked_rotated}
 use Rattle.shr_list.proofs.queue.links.Links.rotate.Goals as goal

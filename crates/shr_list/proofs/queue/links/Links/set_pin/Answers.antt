@@ -1,3 +1,4 @@
+-- SPDX-License-Identifier: GPL-2.0-only
 use Rattle.shr_list.proofs.Common.{IsLinked, pinned_object}
 use Rattle.shr_list.proofs.Linked.{nodes_are, settled, stored_here, linked_changed}
 use Rattle.shr_list.proofs.queue.links.Links.set_pin.Goals as goal

@@ -1,3 +1,4 @@
+-- SPDX-License-Identifier: GPL-2.0-only
 use Rattle.shr_list.proofs.Common.{◌≡◌, ◌+◌, ◌∙◌, Some, None, sym, arith, refl, slice_get, keys_of}
 use Rattle.shr_list.proofs.Walks.{here, is_at}
 use Rattle.shr_list.proofs.Slots.{key_got, key_left}

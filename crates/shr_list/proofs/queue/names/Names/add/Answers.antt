@@ -1,3 +1,4 @@
+-- SPDX-License-Identifier: GPL-2.0-only
 use Rattle.shr_list.proofs.Common.{◌≡◌, ◌∙◌, sym, refl, Some, None, rules, IsSome, found_clash, Name, print_of, entry_at, in_nodes}
 use Rattle.shr_list.proofs.Fitting.{vacant_finds, fits_kept, on_err, gains_entry}
 use Rattle.shr_list.proofs.Lookups.{looked, told_clash, kept_clash}

@@ -1,3 +1,4 @@
+-- SPDX-License-Identifier: GPL-2.0-only
 use Rattle.shr_list.proofs.Common.{◌≡◌, ◌∙◌, sym, Some, None, rules, print_of, entry_at, in_nodes}
 use Rattle.shr_list.proofs.Fitting.{vacant_finds}
 use Rattle.shr_list.proofs.Lookups.{looked}

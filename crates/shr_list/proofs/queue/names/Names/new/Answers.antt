@@ -1,3 +1,4 @@
+-- SPDX-License-Identifier: GPL-2.0-only
 use Rattle.shr_list.proofs.Fitting.{fits_none}
 use Rattle.shr_list.proofs.queue.names.Names.new.Goals as goal
 

@@ -1,3 +1,4 @@
+-- SPDX-License-Identifier: GPL-2.0-only
 use Rattle.shr_list.proofs.Common.{◌≡◌, refl, None, rules, IsSome, Name, Crowded, AddsClash, print_of, entry_at}
 use Rattle.shr_list.proofs.Fitting.{fits_kept, on_err, gains_entry, gains_told}
 use Rattle.shr_list.proofs.queue.names.Names.put.Goals as goal

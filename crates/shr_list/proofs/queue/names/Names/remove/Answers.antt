@@ -1,3 +1,4 @@
+-- SPDX-License-Identifier: GPL-2.0-only
 use Rattle.shr_list.proofs.Common.{◌≡◌, refl, None, rules, IsSome, Names, found_clash, print_of}
 use Rattle.shr_list.proofs.Fitting.{SetsEntry, turns_clash, turns_entry}
 use Rattle.shr_list.proofs.queue.names.Names.remove.Goals as goal
