@@ -16,7 +16,7 @@ use Rattle.shr_walk.specs.Balances.{walk_freed, lacked_memory}
 use Rattle.shr_walk.specs.State.{WorkerState}
 use Rattle.shr_walk.specs.declared.seats.Shared.{Shared}
 use Rattle.shr_walk.specs.Rounds.{Visit, WalksAll, IsVisited, job_in}
-use Rattle.shr_walk.proofs.Visiting.{all_more, none_walked, visited_more}
+use Rattle.shr_walk.proofs.VisitsMade.{all_more, none_walked, visited_more}
 use Rattle.shr_pool.specs.Known.{HasPoppedWithin}
 use Rattle.shr_pool.specs.Lines.{ends, is_end, of_job, queue_line, table_jobs, most_helpers}
 use Rattle.shr_pool.specs.Rule.{with_pop}

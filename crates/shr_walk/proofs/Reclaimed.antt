@@ -10,7 +10,7 @@ use Rattle.shr_walk.proofs.Netting.{Nets, nets_then, nets_downs, nets_refused, n
 use Rattle.shr_walk.proofs.Refusing.{refused_above, way_few, way_once}
 use Rattle.shr_walk.proofs.Recorded.{Told, Walked, told_of, told_in, freed_then, visit_once, visited_walked, walked_then}
 use Rattle.shr_walk.proofs.Settling.{Closes, Settles, ways_at, ways_both, closed_settles, closes_then, closes_settles, refused_closes, charged_settles, charged_closes, downs_close}
-use Rattle.shr_walk.proofs.Visiting.{parted, prefix_of, visited_parts}
+use Rattle.shr_walk.proofs.VisitsMade.{parted, prefix_of, visited_parts}
 
 -- the group that refused a try, and the groups where a try's charge stands
 abbrev pub over_of : ChargeAnswer → List ℕ

@@ -9,7 +9,7 @@ use Rattle.shr_core.specs.Seats.{shape_of}
 use Rattle.shr_walk.specs.declared.seats.Shared.{Shared}
 use Rattle.shr_walk.proofs.Acted.{same_none, same_then}
 use Rattle.shr_walk.specs.Rounds.{Visit}
-use Rattle.shr_walk.proofs.Visiting.{visited_same}
+use Rattle.shr_walk.proofs.VisitsMade.{visited_same}
 use Rattle.shr_pool.specs.Helping.{HasStopped, walk_of_job}
 use Rattle.shr_pool.proofs.Turning.{HasHelped, marked, helped_none, helped_swept, helped_open, helped_more, helped_stopped, popped_within, popped_few}
 use Rattle.shr_pool.proofs.helping.help.Goals as goal

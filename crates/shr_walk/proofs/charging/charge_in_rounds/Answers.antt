@@ -2,7 +2,7 @@
 use Rattle.shr_walk.proofs.ChargingCommon.{◌-◌, ◌≤◌, sym, subst, arith, ChargeAnswer, depth_of, WorkerState, Shared, same_for, same_then, AllMade, FirstMade, RefusedThere, WalksFirst, due_in, IsChargeTried, Refusal}
 use Rattle.shr_walk.proofs.Calling.{charges_few, visited_calls}
 use Rattle.shr_walk.proofs.Tried.{HasTried, tried_first, tried_more, tried_cut, short_gives, none_gives}
-use Rattle.shr_walk.proofs.Visiting.{first_whole}
+use Rattle.shr_walk.proofs.VisitsMade.{first_whole}
 use Rattle.shr_walk.proofs.charging.charge_in_rounds.Goals as goal
 
 pub returns-in_err-answer-clause-admitted : goal.returns-in_err-answer-clause-admitted

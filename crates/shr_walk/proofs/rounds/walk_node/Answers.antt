@@ -1,7 +1,7 @@
 -- SPDX-License-Identifier: GPL-2.0-only
 use Rattle.shr_walk.proofs.ChargingCommon.{ℕ, ◌+◌, ◌<◌, List, ◌++◌, ◌∷◌, [], false, take, drop, get_or, refl, sym, subst, ◌∙◌, arith, Job, job, groups_in, shape_of, Shared, same_then, jobs_on, Visit, WalksAll, WalksFirst, All-get_or, same_none}
 use Rattle.shr_walk.proofs.ChargeRanging.{on_more, on_parted}
-use Rattle.shr_walk.proofs.Visiting.{none_walked, all_more, first_cut, visited_same}
+use Rattle.shr_walk.proofs.VisitsMade.{none_walked, all_more, first_cut, visited_same}
 use Rattle.shr_walk.proofs.rounds.walk_node.Goals as goal
 
 pub walk_one-answer-requires-clause-place : goal.walk_one-answer-requires-clause-place

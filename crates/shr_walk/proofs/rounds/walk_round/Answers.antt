@@ -1,7 +1,7 @@
 -- SPDX-License-Identifier: GPL-2.0-only
 use Rattle.shr_walk.proofs.ChargingCommon.{◌≡◌, ℕ, ◌+◌, ◌<◌, List, ◌++◌, length, sym, ap, subst, ◌∙◌, arith, append_assoc, All, Result, Ok, Err, Memory, IsTree, preorder_of, Job, groups_in, shape_of, Shared, same_for, same_then, AllMade, FirstMade, jobs_on, Visit, WalksAll, WalksFirst, due_in, OnErr}
 use Rattle.shr_walk.proofs.ChargeRanging.{jobs_to, jobs_from, jobs_more, jobs_parted, jobs_all, order_within}
-use Rattle.shr_walk.proofs.Visiting.{all_then, first_then}
+use Rattle.shr_walk.proofs.VisitsMade.{all_then, first_then}
 use Rattle.shr_walk.proofs.rounds.walk_round.Goals as goal
 
 on_error : (r : Result (Unit {0}) Memory) (P : Type 0) → P → OnErr r P
